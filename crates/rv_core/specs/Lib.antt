@@ -1,0 +1,3 @@
+pub mod Execute
+pub mod Hart
+pub mod Memory

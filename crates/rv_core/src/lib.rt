@@ -1,0 +1,10 @@
+//! One RV32 hart: its registers, the bus that it fetches from, and the step of one instruction.
+#![tactic(auto)]
+
+mod bus;
+mod execute;
+mod hart;
+
+pub use bus::{Bus, Cause};
+pub use execute::{Out, step};
+pub use hart::Hart;

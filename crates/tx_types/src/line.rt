@@ -1,0 +1,48 @@
+//! One line of printed text and its parts.
+//!
+//! A line has a fixed room, so nothing here takes memory; each part asks for the room that it needs.
+ghost use Rattle.std.specs.Prelude.{◌≡◌, ◌+◌, ◌≤◌, ◌<◌, ◌++◌, ◌∷◌, [], length, decimal};
+ghost use Rattle.std.specs.Char.{digit_char};
+ghost use Rattle.arrayvec.specs.ArrayString.{array_string_len};
+ghost use Rattle.tx_types.specs.Line.{hex};
+
+use arrayvec::ArrayString;
+use itoa::Buffer;
+
+/// A line of text under construction, with room for 1,280 bytes.
+pub type Line = ArrayString<1280>;
+
+/// Appends a number in decimal, which takes up to ten digits.
+pub fn put_decimal(line: &mut Line, n: u32)
+    requires { array_string_len line.old + 10 ≤ 1280 }
+    ensures bytes { line.new.bytes ≡ line.old.bytes ++ decimal n }
+{
+    let mut buffer = Buffer::new();
+    line.push_str(buffer.format(n));
+}
+
+/// Appends a word as eight lower-case hexadecimal digits.
+pub fn put_hex(line: &mut Line, w: u32)
+    requires { array_string_len line.old + 8 ≤ 1280 }
+    ensures bytes { line.new.bytes ≡ line.old.bytes ++ hex w }
+{
+    put_digit(line, w >> 28);
+    put_digit(line, w >> 24 & 0xF);
+    put_digit(line, w >> 20 & 0xF);
+    put_digit(line, w >> 16 & 0xF);
+    put_digit(line, w >> 12 & 0xF);
+    put_digit(line, w >> 8 & 0xF);
+    put_digit(line, w >> 4 & 0xF);
+    put_digit(line, w & 0xF);
+}
+
+/// Appends one hexadecimal digit.
+fn put_digit(line: &mut Line, digit: u32)
+    requires digit { digit < 16 }
+    requires room { array_string_len line.old + 1 ≤ 1280 }
+    ensures bytes { line.new.bytes ≡ line.old.bytes ++ digit_char digit ∷ [] }
+{
+    if let Some(c) = char::from_digit(digit, 16) {
+        line.push(c);
+    }
+}
