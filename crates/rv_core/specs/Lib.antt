@@ -1,3 +1,4 @@
+pub mod Cause
 pub mod Execute
 pub mod Hart
 pub mod Memory

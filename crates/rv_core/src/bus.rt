@@ -1,5 +1,6 @@
 //! What a hart reaches memory through.
 ghost use Rattle.std.specs.Prelude.{◌≡◌, ◌%◌, ℕ, Bool, if◌then◌else◌, Ok, Err};
+ghost use Rattle.rv_core.specs.Cause.{cause_number};
 ghost use Rattle.rv_core.specs.Memory.{memory_word};
 
 /// Why an instruction can't be executed.
@@ -13,6 +14,15 @@ pub enum Cause {
     LoadOutside,
     StoreMisaligned,
     StoreOutside,
+}
+
+impl Cause {
+    /// The number of the cause, from 0 in the order of the variants.
+    pub fn number(self) -> u32
+        ensures { result ≡ cause_number self }
+    {
+        self as u32
+    }
 }
 
 /// Memory as a hart sees it: bytes by address, and the ranges that it may use.

@@ -25,7 +25,7 @@ impl Model for Hart {
 }
 
 impl Hart {
-    ghost use Rattle.std.specs.Prelude.{◌≡◌, ◌<◌};
+    ghost use Rattle.std.specs.Prelude.{◌≡◌, ◌<◌, length, drop};
     ghost use Rattle.rv_core.specs.Hart.{register, with_register, advanced};
 
     /// The value of a register.
@@ -34,6 +34,14 @@ impl Hart {
         ensures { result ≡ register self.now r }
     {
         self.x[r as usize]
+    }
+
+    /// The general-purpose registers x1 to x31.
+    pub fn general(&self) -> &[u32]
+        ensures value { result.now ≡ drop 1 self.now.x }
+        ensures len { length result.now ≡ 31 }
+    {
+        &self.x[1..]
     }
 
     /// Writes a register; a write to x0 is dropped.

@@ -16,6 +16,7 @@ pub type Line = ArrayString<1280>;
 pub fn put_decimal(line: &mut Line, n: u32)
     requires { array_string_len line.old + 10 ≤ 1280 }
     ensures bytes { line.new.bytes ≡ line.old.bytes ++ decimal n }
+    ensures short { array_string_len line.new ≤ array_string_len line.old + 10 }
 {
     let mut buffer = Buffer::new();
     line.push_str(buffer.format(n));
@@ -25,6 +26,7 @@ pub fn put_decimal(line: &mut Line, n: u32)
 pub fn put_hex(line: &mut Line, w: u32)
     requires { array_string_len line.old + 8 ≤ 1280 }
     ensures bytes { line.new.bytes ≡ line.old.bytes ++ hex w }
+    ensures len { array_string_len line.new ≡ array_string_len line.old + 8 }
 {
     put_digit(line, w >> 28);
     put_digit(line, w >> 24 & 0xF);

@@ -1,0 +1,145 @@
+//! One module image, run alone.
+//!
+//! The image lies at the start of RAM and nothing else is there yet: its bytes may be fetched, and there
+//! is no memory to load from or to store to.
+ghost use Rattle.std.specs.Prelude.{◌≡◌, ◌+◌, ◌*◌, ◌≤◌, ◌++◌, length};
+ghost use Rattle.arrayvec.specs.ArrayString.{array_string_len};
+ghost use Rattle.rv_core.specs.Execute.{executed};
+ghost use Rattle.board_run.specs.Hart.{ran, image_byte, image_lets_fetch, end_text, fault_text, steps_line, pc_line, regs_line, words_text};
+
+use byteorder::{ByteOrder, LittleEndian};
+use rv_core::{Bus, Cause, Hart, Out, step};
+use tx_types::{Line, put_decimal, put_hex};
+
+/// The address of the first byte of RAM.
+pub const RAM_BASE: u32 = 0x8000_0000;
+
+/// How a run of a bounded number of instructions ended.
+#[derive(Clone, Copy, Debug, PartialEq, Eq)]
+pub enum End {
+    Count,
+    Call,
+    Fault(Cause),
+}
+
+/// A run: how many instructions completed, how it ended, and the hart then.
+#[derive(Clone, Copy, Debug, PartialEq, Eq)]
+pub struct Ran {
+    pub steps: u32,
+    pub end: End,
+    pub hart: Hart,
+}
+
+/// The bytes of an image that lies alone at the start of RAM.
+struct ImageBus<'a> {
+    image: &'a [u8],
+}
+
+impl Bus for ImageBus<'_> {
+    ghost byte = { λ bus. image_byte bus.image.now };
+
+    ghost lets_fetch = { λ bus. image_lets_fetch bus.image.now };
+
+    fn fetch(&self, a: u32) -> Result<u32, Cause> {
+        if a < RAM_BASE {
+            return Err(Cause::FetchOutside);
+        }
+        let at = (a - RAM_BASE) as usize;
+        if at + 4 > self.image.len() {
+            return Err(Cause::FetchOutside);
+        }
+        Ok(LittleEndian::read_u32(&self.image[at..]))
+    }
+}
+
+/// Executes at most so many instructions. A call isn't counted, and pc stays on it.
+fn run<B: Bus>(mut hart: Hart, bus: &mut B, most: u32) -> Ran
+    ensures { result ≡ ran (executed (B.lets_fetch bus.old) (B.byte bus.old)) most hart }
+{
+    for steps in 0..most {
+        let pc = hart.pc;
+        match step(&mut hart, bus) {
+            Out::Done => {}
+            Out::Call => {
+                hart.pc = pc;
+                return Ran { steps, end: End::Call, hart };
+            }
+            Out::Fault(cause) => return Ran { steps, end: End::Fault(cause), hart },
+        }
+    }
+    Ran { steps: most, end: End::Count, hart }
+}
+
+/// Appends how a run ended.
+fn put_end(line: &mut Line, end: End)
+    requires { array_string_len line.old + 16 ≤ 1280 }
+    ensures bytes { line.new.bytes ≡ line.old.bytes ++ end_text end }
+    ensures short { array_string_len line.new ≤ array_string_len line.old + 16 }
+{
+    match end {
+        End::Count => line.push_str("count"),
+        End::Call => line.push_str("call"),
+        End::Fault(cause) => put_fault(line, cause.number()),
+    }
+}
+
+/// Appends the number of a cause; an instruction that isn't built yet has no number.
+fn put_fault(line: &mut Line, number: u32)
+    requires { array_string_len line.old + 16 ≤ 1280 }
+    ensures bytes { line.new.bytes ≡ line.old.bytes ++ fault_text number }
+    ensures short { array_string_len line.new ≤ array_string_len line.old + 16 }
+{
+    if number == Cause::Illegal.number() {
+        line.push_str("unbuilt");
+    } else {
+        line.push_str("fault ");
+        put_decimal(line, number);
+    }
+}
+
+/// The line of the steps and the end.
+fn steps_line(ran: &Ran) -> Line
+    ensures { result.bytes ≡ steps_line ran.now }
+{
+    let mut line = Line::new();
+    line.push_str("hart steps ");
+    put_decimal(&mut line, ran.steps);
+    line.push_str(" end ");
+    put_end(&mut line, ran.end);
+    line.push_str("\n");
+    line
+}
+
+/// The line of the program counter.
+fn pc_line(ran: &Ran) -> Line
+    ensures { result.bytes ≡ pc_line ran.now }
+{
+    let mut line = Line::new();
+    line.push_str("pc ");
+    put_hex(&mut line, ran.hart.pc);
+    line.push_str("\n");
+    line
+}
+
+/// The line of the registers x1 to x31.
+fn regs_line(ran: &Ran) -> Line
+    ensures { result.bytes ≡ regs_line ran.now }
+{
+    let mut line = Line::new();
+    line.push_str("regs");
+    put_words(&mut line, ran.hart.general());
+    line.push_str("\n");
+    line
+}
+
+/// Appends words, each after a space.
+fn put_words(line: &mut Line, words: &[u32])
+    requires { array_string_len line.old + 9 * length words.now ≤ 1280 }
+    ensures bytes { line.new.bytes ≡ line.old.bytes ++ words_text words.now }
+    ensures len { array_string_len line.new ≡ array_string_len line.old + 9 * length words.now }
+{
+    for word in words {
+        line.push_str(" ");
+        put_hex(line, *word);
+    }
+}

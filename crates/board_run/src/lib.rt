@@ -1,0 +1,4 @@
+//! The top calls of the board.
+#![tactic(auto)]
+
+mod hart;
