@@ -1,1 +1,5 @@
+pub mod Faults
+pub mod Files
 pub mod Hart
+pub mod Sink
+pub mod Status

@@ -1,4 +1,14 @@
-//! The top calls of the board.
+//! The still machine's command line: its words, the files it reads, the sink it writes to, its statuses.
+//!
+//! Files and sinks are traits, so that what is read and written can be held in memory and told in
+//! contracts. Both count their faults: a call that failed by the outside shows it by a higher count.
 #![tactic(auto)]
 
+mod files;
 mod hart;
+mod sink;
+mod status;
+
+pub use files::{Files, ReadErr};
+pub use sink::{Sink, SureSink, WriteErr};
+pub use status::Status;
