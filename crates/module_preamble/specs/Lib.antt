@@ -1,0 +1,3 @@
+pub mod Preamble
+pub mod Refusal
+pub mod Words

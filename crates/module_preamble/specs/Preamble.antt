@@ -1,0 +1,80 @@
+-- The rules of a module preamble as a table in the order in which they are tested, and what reading
+-- an image gives (ThreadX Modules User Guide, "Module Preamble"; the bounds on sizes are this board's).
+use Rattle.std.specs.Prelude.{ℕ, ◌%◌, ◌==◌, nat_lt, nat_le, Bool, not, ◌&&◌, ◌||◌, if◌then◌else◌, List, [], ◌∷◌, ◌++◌, length, Result, Ok, Err}
+use Rattle.std.specs.Int.{bit_at}
+use Rattle.module_preamble.specs.Words.{words_of, has_callback}
+use Rattle.module_preamble.specs.declared.words.Preamble.{Preamble}
+use Rattle.module_preamble.specs.declared.refusal.PreErr.{PreErr}
+use Rattle.module_preamble.specs.declared.refusal.PreErr.TheVariants.{Short, BadId, BadMajor, BadSize, BadProps, BadCode, BadData, BadEntry, BadPrio, BadStack}
+use Rattle.module_preamble.specs.declared.rules.TheConstants.{MODULE_ID, FIRST_MAJOR, LAST_MAJOR, PREAMBLE_WORDS, PREAMBLE_BYTES, USER_MODE, MEMORY_PROTECTION, MOST_DATA, PRIORITIES, LEAST_STACK, MOST_STACK}
+
+-- a rule: whether it holds, and the refusal where it doesn't
+pub record Rule : Type 0 where
+  pub holds : Bool
+  pub refusal : PreErr
+
+abbrev pub rule : Bool → PreErr → Rule
+rule holds refusal = record { holds = holds; refusal = refusal }
+
+-- a value under a table of rules: the refusal of the first rule that doesn't hold, else the value
+unfoldable pub judged : {X : Type 0} → List Rule → X → Result X PreErr
+judged [] x = Ok x
+judged (r ∷ rules) x = if r.holds then judged rules x else Err r.refusal
+
+-- an entry is the offset of an instruction behind the preamble
+abbrev pub is_entry : Preamble → ℕ → Bool
+is_entry p w = (w % 4 == 0) && nat_le PREAMBLE_BYTES w && nat_lt w p.code_size
+
+-- an entry, or 0 for none
+abbrev pub is_optional_entry : Preamble → ℕ → Bool
+is_optional_entry p w = (w == 0) || is_entry p w
+
+abbrev pub is_stack : ℕ → Bool
+is_stack w = nat_le LEAST_STACK w && nat_le w MOST_STACK
+
+unfoldable pub length_rules : List ℕ → List Rule
+length_rules bytes = rule (nat_le PREAMBLE_BYTES (length bytes)) (Short (length bytes)) ∷ []
+
+unfoldable pub identity_rules : Preamble → List Rule
+identity_rules p =
+    rule (p.id == MODULE_ID) (BadId p.id)
+    ∷ rule (nat_le FIRST_MAJOR p.major && nat_le p.major LAST_MAJOR) (BadMajor p.major)
+    ∷ rule (p.words == PREAMBLE_WORDS) (BadSize p.words)
+    ∷ rule ((bit_at p.props USER_MODE == 1) && (bit_at p.props MEMORY_PROTECTION == 1)) (BadProps p.props)
+    ∷ []
+
+unfoldable pub size_rules : ℕ → Preamble → List Rule
+size_rules len p =
+    rule ((p.code_size % 4 == 0) && (p.code_size == len)) (BadCode p.code_size)
+    ∷ rule (nat_le p.data_size MOST_DATA) (BadData p.data_size)
+    ∷ []
+
+unfoldable pub entry_rules : Preamble → List Rule
+entry_rules p =
+    rule (is_entry p p.shell) (BadEntry 0 p.shell)
+    ∷ rule (is_entry p p.start) (BadEntry 1 p.start)
+    ∷ rule (is_optional_entry p p.stop) (BadEntry 2 p.stop)
+    ∷ rule (is_optional_entry p p.callback) (BadEntry 3 p.callback)
+    ∷ []
+
+unfoldable pub priority_rules : Preamble → List Rule
+priority_rules p =
+    rule (nat_lt p.start_prio PRIORITIES) (BadPrio 0 p.start_prio)
+    ∷ rule (not (has_callback p) || nat_lt p.callback_prio PRIORITIES) (BadPrio 1 p.callback_prio)
+    ∷ []
+
+unfoldable pub stack_rules : Preamble → List Rule
+stack_rules p =
+    rule (is_stack p.start_stack) (BadStack 0 p.start_stack)
+    ∷ rule (not (has_callback p) || is_stack p.callback_stack) (BadStack 1 p.callback_stack)
+    ∷ []
+
+-- the table
+unfoldable pub rules : List ℕ → List Rule
+rules bytes =
+    let p = words_of bytes in
+    length_rules bytes ++ (identity_rules p ++ (size_rules (length bytes) p ++ (entry_rules p ++ (priority_rules p ++ stack_rules p))))
+
+-- what reading an image gives
+unfoldable pub preamble : List ℕ → Result Preamble PreErr
+preamble bytes = judged (rules bytes) (words_of bytes)

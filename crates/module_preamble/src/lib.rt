@@ -1,0 +1,30 @@
+//! The preamble at the head of a module image: its sixteen words, or the first rule that it breaks.
+//!
+//! The layout is that of the ThreadX Modules User Guide, "Module Preamble"; the bounds on sizes are
+//! this board's. Nothing here looks at the code behind the preamble, and nothing allocates.
+#![tactic(auto)]
+
+ghost use Rattle.std.specs.Prelude.{◌≡◌};
+ghost use Rattle.module_preamble.specs.Preamble.{preamble};
+
+mod refusal;
+mod rules;
+mod words;
+
+pub use refusal::PreErr;
+pub use words::Preamble;
+
+/// The words of an image's preamble, or the refusal of the first rule that it breaks.
+#[tactic(auto, using(crate::proofs::Judged::parts), unfolding(crate::specs::Preamble::preamble, crate::specs::Preamble::rules))]
+pub fn read(image: &[u8]) -> Result<Preamble, PreErr>
+    ensures preamble { result ≡ preamble image.now }
+{
+    rules::check_length(image)?;
+    let p = Preamble::of(image);
+    rules::check_identity(&p)?;
+    rules::check_sizes(&p, image.len())?;
+    rules::check_entries(&p)?;
+    rules::check_priorities(&p)?;
+    rules::check_stacks(&p)?;
+    Ok(p)
+}
