@@ -1,1 +1,4 @@
+pub mod Fronts
 pub mod Running
+pub mod Steps
+pub mod Writing

@@ -46,10 +46,10 @@ end_text (Fault cause) = fault_text (cause_number cause)
 abbrev pub newline : List ℕ
 newline = codes "\n"
 
-abbrev pub steps_line : Ran → List ℕ
+unfoldable pub steps_line : Ran → List ℕ
 steps_line r = codes "hart steps " ++ decimal r.steps ++ codes " end " ++ end_text r.end ++ newline
 
-abbrev pub pc_line : Ran → List ℕ
+unfoldable pub pc_line : Ran → List ℕ
 pc_line r = codes "pc " ++ hex r.hart.pc ++ newline
 
 -- words in hexadecimal, each after a space
@@ -57,5 +57,8 @@ abbrev pub words_text : List ℕ → List ℕ
 words_text words = flat_map (λ word. codes " " ++ hex word) words
 
 -- x1 to x31
-abbrev pub regs_line : Ran → List ℕ
+unfoldable pub regs_line : Ran → List ℕ
 regs_line r = codes "regs" ++ words_text (drop 1 r.hart.x) ++ newline
+
+unfoldable pub hart_text : Ran → List ℕ
+hart_text r = steps_line r ++ pc_line r ++ regs_line r

@@ -1,5 +1,11 @@
+pub mod Command
+pub mod CommandRow
+pub mod Due
 pub mod Faults
 pub mod Files
 pub mod Hart
+pub mod Opening
+pub mod Reading
+pub mod Refusal
 pub mod Sink
 pub mod Status

@@ -3,12 +3,27 @@
 //! The image lies at the start of RAM and nothing else is there yet: its bytes may be fetched, and there
 //! is no memory to load from or to store to.
 ghost use Rattle.std.specs.Prelude.{◌≡◌, ◌+◌, ◌*◌, ◌≤◌, ◌++◌, length};
+ghost use Rattle.std.specs.Prelude.{IfOk};
+ghost use Rattle.std.specs.Option.{option_map};
 ghost use Rattle.arrayvec.specs.ArrayString.{array_string_len};
+ghost use Rattle.module_preamble.specs.Preamble.{preamble};
 ghost use Rattle.rv_core.specs.Execute.{executed};
-ghost use Rattle.board_run.specs.Hart.{ran, image_byte, image_lets_fetch, end_text, fault_text, steps_line, pc_line, regs_line, words_text};
+ghost use Rattle.board_run.specs.Due.{refused_image, image_ran, hart_ran};
+ghost use Rattle.board_run.specs.Faults.{Rose};
+ghost use Rattle.board_run.specs.Opening.{IsPlaceable};
+ghost use Rattle.board_run.specs.Reading.{Gives};
+ghost use Rattle.board_run.specs.Sink.{Wrote};
+ghost use Rattle.board_run.specs.Hart.{ran, hart_text, image_byte, image_lets_fetch, end_text, fault_text, steps_line, pc_line, regs_line, words_text};
 
+use crate::files::Files;
+use crate::opening::opening;
+use crate::reading::{MOST_IMAGE, image_of};
+use crate::refusal::{Refusal, Stop};
+use crate::sink::{Sink, WriteErr};
 use byteorder::{ByteOrder, LittleEndian};
+use module_preamble::Preamble;
 use rv_core::{Bus, Cause, Hart, Out, step};
+use std::alloc::Global;
 use tx_types::{Line, put_decimal, put_hex};
 
 /// The address of the first byte of RAM.
@@ -31,6 +46,7 @@ pub struct Ran {
 }
 
 /// The bytes of an image that lies alone at the start of RAM.
+#[derive(Drop)]
 struct ImageBus<'a> {
     image: &'a [u8],
 }
@@ -50,6 +66,58 @@ impl Bus for ImageBus<'_> {
         }
         Ok(LittleEndian::read_u32(&self.image[at..]))
     }
+}
+
+/// The preamble of the image of a number, or its refusal.
+fn preamble_of(number: u8, image: &[u8]) -> Result<Preamble, Stop>
+    requires { length image.now ≤ MOST_IMAGE }
+    ensures preamble { result ≡ refused_image number (preamble image.now) }
+    ensures placeable { IfOk result IsPlaceable }
+{
+    match module_preamble::read(image) {
+        Ok(p) => Ok(p),
+        Err(err) => Err(Stop::Refused(Refusal::Image(number, err))),
+    }
+}
+
+/// The run of an image that lies alone, for at most so many instructions, or its refusal.
+#[tactic(auto, unfolding(crate::specs::Due::image_ran))]
+fn image_ran(image: &[u8], most: u32) -> Result<Ran, Stop>
+    requires { length image.now ≤ MOST_IMAGE }
+    ensures { result ≡ image_ran most image.now }
+{
+    let p = preamble_of(0, image)?;
+    let mut bus = ImageBus { image };
+    Ok(run(opening(&p), &mut bus, most))
+}
+
+/// Reads an image and runs it alone, for at most so many instructions.
+#[tactic(auto, using(crate::proofs::Steps::gives_then, crate::proofs::Steps::stops_after), unfolding(crate::specs::Due::hart_ran))]
+pub fn hart_ran<F: Files>(
+    alloc: Global,
+    name: &str,
+    most: u32,
+    files: &mut F,
+) -> Result<Ran, Stop>
+    ensures held { F.held files.new ≡ F.held files.old }
+    ensures counted { F.faults files.old ≤ F.faults files.new }
+    ensures ran { Gives (λ r. r) (option_map (hart_ran name.now most) (F.held files.old))
+        (Rose (F.faults files.old) (F.faults files.new)) result }
+{
+    let image = image_of(alloc, 0, name, files)?;
+    image_ran(&image, most)
+}
+
+/// Writes the text of a run, a line at a time.
+#[tactic(auto, using(crate::proofs::Writing::writing), unfolding(crate::specs::Hart::hart_text))]
+pub fn write_hart<S: Sink>(ran: &Ran, sink: &mut S) -> Result<(), WriteErr>
+    ensures counted { S.faults sink.old ≤ S.faults sink.new }
+    ensures wrote { Wrote (S.faults sink.old) (S.faults sink.new) (S.written sink.old) (S.written sink.new)
+        (hart_text ran.now) result }
+{
+    sink.write(steps_line(ran).as_str().as_bytes())?;
+    sink.write(pc_line(ran).as_str().as_bytes())?;
+    sink.write(regs_line(ran).as_str().as_bytes())
 }
 
 /// Executes at most so many instructions. A call isn't counted, and pc stays on it.
@@ -98,6 +166,7 @@ fn put_fault(line: &mut Line, number: u32)
 }
 
 /// The line of the steps and the end.
+#[tactic(auto, unfolding(crate::specs::Hart::steps_line))]
 fn steps_line(ran: &Ran) -> Line
     ensures { result.bytes ≡ steps_line ran.now }
 {
@@ -111,6 +180,7 @@ fn steps_line(ran: &Ran) -> Line
 }
 
 /// The line of the program counter.
+#[tactic(auto, unfolding(crate::specs::Hart::pc_line))]
 fn pc_line(ran: &Ran) -> Line
     ensures { result.bytes ≡ pc_line ran.now }
 {
@@ -122,6 +192,7 @@ fn pc_line(ran: &Ran) -> Line
 }
 
 /// The line of the registers x1 to x31.
+#[tactic(auto, unfolding(crate::specs::Hart::regs_line))]
 fn regs_line(ran: &Ran) -> Line
     ensures { result.bytes ≡ regs_line ran.now }
 {

@@ -4,11 +4,16 @@
 //! contracts. Both count their faults: a call that failed by the outside shows it by a higher count.
 #![tactic(auto)]
 
+mod command;
 mod files;
 mod hart;
+mod opening;
+mod reading;
+mod refusal;
 mod sink;
 mod status;
 
 pub use files::{Files, ReadErr};
+pub use refusal::{Refusal, Stop};
 pub use sink::{Sink, SureSink, WriteErr};
 pub use status::Status;

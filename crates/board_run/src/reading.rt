@@ -1,0 +1,33 @@
+//! Files read whole, and refused where they are too large.
+ghost use Rattle.std.specs.Prelude.{◌≡◌, ◌≤◌, length, IfOk};
+ghost use Rattle.std.specs.Option.{option_map};
+ghost use Rattle.board_run.specs.Due.{image_at};
+ghost use Rattle.board_run.specs.Faults.{Rose};
+ghost use Rattle.board_run.specs.Reading.{Gives};
+
+use crate::files::Files;
+use crate::refusal::{Refusal, Stop};
+use std::alloc::Global;
+
+/// The most bytes that an image may have.
+pub const MOST_IMAGE: u32 = 1_048_576;
+
+/// The image of a number, from the file of a name.
+pub fn image_of<F: Files>(
+    alloc: Global,
+    number: u8,
+    name: &str,
+    files: &mut F,
+) -> Result<Vec<u8>, Stop>
+    ensures held { F.held files.new ≡ F.held files.old }
+    ensures counted { F.faults files.old ≤ F.faults files.new }
+    ensures image { Gives (λ v. v.items) (option_map (image_at number name.now) (F.held files.old))
+        (Rose (F.faults files.old) (F.faults files.new)) result }
+    ensures within { IfOk result (λ v. length v.items ≤ MOST_IMAGE) }
+{
+    let bytes = files.read(alloc, name, MOST_IMAGE)?;
+    if bytes.len() > MOST_IMAGE as usize {
+        return Err(Stop::Refused(Refusal::ImageTooLarge(number)));
+    }
+    Ok(bytes)
+}
