@@ -1,6 +1,6 @@
 -- The rules of a module preamble as a table in the order in which they are tested, and what reading
 -- an image gives (ThreadX Modules User Guide, "Module Preamble"; the bounds on sizes are this board's).
-use Rattle.std.specs.Prelude.{ℕ, ◌%◌, ◌==◌, nat_lt, nat_le, Bool, not, ◌&&◌, ◌||◌, if◌then◌else◌, List, [], ◌∷◌, ◌++◌, length, Result, Ok, Err}
+use Rattle.std.specs.Prelude.{◌≡◌, ℕ, ◌%◌, ◌<◌, ◌≤◌, ◌==◌, nat_lt, nat_le, Bool, IsTrue, not, ◌&&◌, ◌||◌, if◌then◌else◌, List, [], ◌∷◌, ◌++◌, length, Result, Ok, Err}
 use Rattle.std.specs.Int.{bit_at}
 use Rattle.module_preamble.specs.Words.{words_of, has_callback}
 use Rattle.module_preamble.specs.declared.words.Preamble.{Preamble}
@@ -78,3 +78,28 @@ rules bytes =
 -- what reading an image gives
 unfoldable pub preamble : List ℕ → Result Preamble PreErr
 preamble bytes = judged (rules bytes) (words_of bytes)
+
+-- the offset of an instruction behind the preamble
+pub record IsEntry (p : Preamble) (w : ℕ) : Type 0 where
+  pub aligned : w % 4 ≡ 0
+  pub behind : PREAMBLE_BYTES ≤ w
+  pub inside : w < p.code_size
+
+-- a size that a stack may have
+pub record IsStack (size : ℕ) : Type 0 where
+  pub least : LEAST_STACK ≤ size
+  pub most : size ≤ MOST_STACK
+
+-- what the layers above rely on in an accepted image with these words
+pub record IsAccepted (bytes : List ℕ) (p : Preamble) : Type 0 where
+  pub words : p ≡ words_of bytes
+  pub code_size : p.code_size ≡ length bytes
+  pub code_words : p.code_size % 4 ≡ 0
+  pub data_size : p.data_size ≤ MOST_DATA
+  pub shell : IsEntry p p.shell
+  pub start : IsEntry p p.start
+  pub callback : IsTrue (has_callback p) → IsEntry p p.callback
+  pub start_prio : p.start_prio < PRIORITIES
+  pub callback_prio : IsTrue (has_callback p) → p.callback_prio < PRIORITIES
+  pub start_stack : IsStack p.start_stack
+  pub callback_stack : IsTrue (has_callback p) → IsStack p.callback_stack

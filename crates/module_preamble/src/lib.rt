@@ -4,8 +4,8 @@
 //! this board's. Nothing here looks at the code behind the preamble, and nothing allocates.
 #![tactic(auto)]
 
-ghost use Rattle.std.specs.Prelude.{◌≡◌};
-ghost use Rattle.module_preamble.specs.Preamble.{preamble};
+ghost use Rattle.std.specs.Prelude.{◌≡◌, IfOk};
+ghost use Rattle.module_preamble.specs.Preamble.{preamble, IsAccepted};
 
 mod refusal;
 mod rules;
@@ -15,9 +15,10 @@ pub use refusal::PreErr;
 pub use words::Preamble;
 
 /// The words of an image's preamble, or the refusal of the first rule that it breaks.
-#[tactic(auto, using(crate::proofs::Judged::parts), unfolding(crate::specs::Preamble::preamble, crate::specs::Preamble::rules))]
+#[tactic(auto, using(crate::proofs::Judged::parts, crate::proofs::Accepted::accepted), unfolding(crate::specs::Preamble::preamble, crate::specs::Preamble::rules))]
 pub fn read(image: &[u8]) -> Result<Preamble, PreErr>
     ensures preamble { result ≡ preamble image.now }
+    ensures accepted { IfOk result (λ p. IsAccepted image.now p) }
 {
     rules::check_length(image)?;
     let p = Preamble::of(image);
