@@ -1,6 +1,6 @@
 -- The fields and immediates of a word by instruction format (RISC-V Unprivileged ISA Manual, "Base
 -- Instruction Formats" and "Immediate Encoding Variants").
-use Rattle.std.specs.Prelude.{ℕ, ℤ, ◌+◌, ◌*◌, ◌^◌}
+use Rattle.std.specs.Prelude.{ℕ, ℤ, ◌*◌, ◌^◌}
 use Rattle.machine_words.specs.Bits.{bits, signed}
 
 abbrev pub opcode : ℕ → ℕ

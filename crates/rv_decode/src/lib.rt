@@ -1,8 +1,14 @@
 //! Words of RV32IM and their instructions (RISC-V Unprivileged ISA Manual, instruction listings).
+//!
+//! This crate owns the instruction table: which instruction a word is, and which word an instruction
+//! is. It executes nothing, and a word that no row of the table takes has no instruction.
 #![tactic(auto)]
 
-ghost use Rattle.std.specs.Prelude.{◌≡◌};
-ghost use Rattle.rv_decode.specs.Decode.{decoded};
+mod decoding;
+mod encoding;
+
+pub use decoding::decode;
+pub use encoding::encode;
 
 /// One instruction, named as the manual names it, with the fields that its format has.
 #[derive(Clone, Copy, Debug, PartialEq, Eq)]
@@ -13,20 +19,5 @@ pub enum Instr {
     Ecall,
 }
 
-/// The instruction of a word, or none where no row of the table takes it.
-pub fn decode(w: u32) -> Option<Instr>
-    ensures table { result ≡ decoded w }
-{
-    let opcode = w & 0x7F;
-    let rd = (w >> 7 & 0x1F) as u8;
-    let funct3 = w >> 12 & 7;
-    let rs1 = (w >> 15 & 0x1F) as u8;
-    let rs2 = (w >> 20 & 0x1F) as u8;
-    match opcode {
-        0x37 => Some(Instr::Lui { rd, imm: (w & 0xFFFF_F000).cast_signed() }),
-        0x13 if funct3 == 0 => Some(Instr::Addi { rd, rs1, imm: w.cast_signed() >> 20 }),
-        0x33 if funct3 == 0 && w >> 25 == 0 => Some(Instr::Add { rd, rs1, rs2 }),
-        0x73 if w == 0x73 => Some(Instr::Ecall),
-        _ => None,
-    }
-}
+#[cfg(test)]
+mod tests;

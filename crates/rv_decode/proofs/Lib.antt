@@ -1,0 +1,4 @@
+pub mod Formats
+pub mod Immediates
+pub mod Rows
+pub mod Table
