@@ -1,3 +1,4 @@
+pub mod Answering
 pub mod Fronts
 pub mod Running
 pub mod Steps

@@ -15,7 +15,7 @@ stops_after first next None rose (Refused refusal) h = tt
 stops_after first next (Some a) rose (Refused refusal) h = ap (λ r. r >>= next) h
 stops_after first next known rose NoMemory h = tt
 
-gives_untold : {Z : Type 0} (rose : Type 0) (r : Result Z Stop) → Gives (λ z. z) (None {A = Result Z Stop}) rose r
+gives_untold : {Z : Type 0} (rose : Type 0) (r : Result Z Stop) → Gives (λ (z : Z). z) None rose r
 gives_untold rose (Ok z) = tt
 gives_untold rose (Err ReadFault) = tt
 gives_untold rose (Err (Refused refusal)) = tt

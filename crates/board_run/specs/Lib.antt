@@ -1,6 +1,8 @@
+pub mod Answer
 pub mod Command
 pub mod CommandRow
 pub mod Due
+pub mod Ending
 pub mod Faults
 pub mod Files
 pub mod Hart

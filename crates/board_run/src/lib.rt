@@ -12,8 +12,10 @@ mod reading;
 mod refusal;
 mod sink;
 mod status;
+mod still;
 
 pub use files::{Files, ReadErr};
 pub use refusal::{Refusal, Stop};
 pub use sink::{Sink, SureSink, WriteErr};
 pub use status::Status;
+pub use still::board_still;

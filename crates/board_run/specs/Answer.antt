@@ -1,0 +1,18 @@
+-- What a call may answer, by what is due.
+use Rattle.std.specs.Prelude.{◌≡◌, ◌⊎◌, ℕ, List, Option}
+use Rattle.std.specs.Io.KnownBytes.{Appends, Keeps}
+use Rattle.board_run.specs.Due.{Due}
+use Rattle.board_run.specs.Sink.{AppendsFront}
+use Rattle.board_run.specs.declared.status.Status.{Status}
+use Rattle.board_run.specs.declared.status.Status.TheVariants.{Done, Usage, ReadFault, Refused, WriteFault, NoMemory}
+
+-- The status due, with its text written whole. Or a fault of reading, with nothing written; a fault of
+-- writing, with a front of the text written; or want of memory, with nothing written. The two facts say
+-- that the files' and the sink's count of faults rose in the call.
+abbrev pub Answers : Due → (files_rose sink_rose : Type 0) → (old new : Option (List ℕ)) → Status → Type 0
+Answers due files_rose sink_rose old new Done = (due.status ≡ Done) × Appends old new due.text
+Answers due files_rose sink_rose old new Usage = (due.status ≡ Usage) × Appends old new due.text
+Answers due files_rose sink_rose old new Refused = (due.status ≡ Refused) × Appends old new due.text
+Answers due files_rose sink_rose old new ReadFault = ((due.status ≡ ReadFault) ⊎ files_rose) × Keeps old new
+Answers due files_rose sink_rose old new WriteFault = sink_rose × AppendsFront old new due.text
+Answers due files_rose sink_rose old new NoMemory = Keeps old new
