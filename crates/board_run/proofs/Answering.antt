@@ -2,7 +2,7 @@
 use Rattle.std.proofs.Common.{◌≡◌, ℕ, List, ◌++◌, Option, Some, None, Result, Ok, Err, IfSome, MatchResult, ◌⊎◌, inl, inr, ap, sym, subst, ◌∙◌, refl}
 use Rattle.std.specs.Io.KnownBytes.{Appends, Keeps}
 use Rattle.std.specs.Option.{option_map}
-use Rattle.board_run.specs.Answer.{Answers}
+use Rattle.board_run.specs.Answer.{Answers, Completes}
 use Rattle.board_run.specs.Command.{Row, row_of}
 use Rattle.board_run.specs.Due.{Due, due, due_of, row_due, row_text, usage_line, ◌>>=◌}
 use Rattle.board_run.specs.Ending.{Ends, EndsStopped}
@@ -68,3 +68,17 @@ pub row_answers : (words : List (List ℕ)) (row : Row) (known : Option (List �
 row_answers words row None f s old new result is h = tt
 row_answers words row (Some at) f s old new result is h =
     subst (λ r. Answers (row_due r at) f s old new result) (sym is) h
+
+answer_completes : (due : Due) (f s : Type 0) (old new : Option (List ℕ)) (result : Status) → Answers due f s old new result → Completes due f s result
+answer_completes due f s old new Done a = inr (inr (inl (sym a.0)))
+answer_completes due f s old new Usage a = inr (inr (inl (sym a.0)))
+answer_completes due f s old new StatusRefused a = inr (inr (inl (sym a.0)))
+answer_completes due f s old new StatusReadFault a =
+    elim a.0 [ inl is ↦ inr (inr (inl (sym is))) | inr rose ↦ inl rose ]
+answer_completes due f s old new WriteFault a = inr (inl a.0)
+answer_completes due f s old new StatusNoMemory a = inr (inr (inr refl))
+
+-- a call that may answer so is complete
+pub answers_complete : {A : Type 0} (due : A → Due) (known : Option A) (f s : Type 0) (old new : Option (List ℕ)) (result : Status) → IfSome known (λ a. Answers (due a) f s old new result) → IfSome known (λ a. Completes (due a) f s result)
+answers_complete due None f s old new result h = tt
+answers_complete due (Some a) f s old new result h = answer_completes (due a) f s old new result h

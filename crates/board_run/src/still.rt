@@ -1,7 +1,7 @@
 //! The top call of the commands that need no thread.
 ghost use Rattle.std.specs.Prelude.{◌≡◌, ◌≤◌, IfSome, map, string_bytes, MatchResult};
-ghost use Rattle.board_run.specs.Answer.{Answers};
-ghost use Rattle.board_run.specs.Command.{Hart};
+ghost use Rattle.board_run.specs.Answer.{Answers, Settles, Always, Completes};
+ghost use Rattle.board_run.specs.Command.{Hart, row_of};
 ghost use Rattle.board_run.specs.Due.{due, row_text, due_of};
 ghost use Rattle.board_run.specs.Ending.{Ends, EndsStopped};
 ghost use Rattle.board_run.specs.Faults.{Rose};
@@ -19,15 +19,46 @@ const USAGE: &str =
     "usage: txboard hart IMAGE N | check BOARD | replay BOARD LOG | run BOARD | gen SEED\n";
 
 /// Does what the words after the program's name ask for, and answers how it ended.
+#[tactic(auto, using(crate::proofs::Answering::answers_complete))]
 pub fn board_still<F: Files, S: Sink>(
     alloc: Global,
     words: &[String],
     files: &mut F,
     sink: &mut S,
 ) -> Status
+    ensures held { F.held files.new ≡ F.held files.old }
+    ensures read { F.faults files.old ≤ F.faults files.new }
+    ensures written { S.faults sink.old ≤ S.faults sink.new }
+
+    // By what is due for the words and the files, where these tell what they hold.
     ensures answers { IfSome (F.held files.old) (λ at. Answers (due (map string_bytes words.now) at)
         (Rose (F.faults files.old) (F.faults files.new)) (Rose (S.faults sink.old) (S.faults sink.new))
         (S.written sink.old) (S.written sink.new) result) }
+    ensures complete { IfSome (F.held files.old) (λ at. Completes (due (map string_bytes words.now) at)
+        (Rose (F.faults files.old) (F.faults files.new)) (Rose (S.faults sink.old) (S.faults sink.new)) result) }
+
+    // By the words alone, whatever the files hold.
+    ensures always { Always (row_of (map string_bytes words.now)) (Rose (S.faults sink.old) (S.faults sink.new))
+        (S.written sink.old) (S.written sink.new) result }
+{
+    answer(alloc, words, files, sink)
+}
+
+/// The answer of `board_still`.
+fn answer<F: Files, S: Sink>(
+    alloc: Global,
+    words: &[String],
+    files: &mut F,
+    sink: &mut S,
+) -> Status
+    ensures held { F.held files.new ≡ F.held files.old }
+    ensures read { F.faults files.old ≤ F.faults files.new }
+    ensures written { S.faults sink.old ≤ S.faults sink.new }
+    ensures answers { IfSome (F.held files.old) (λ at. Answers (due (map string_bytes words.now) at)
+        (Rose (F.faults files.old) (F.faults files.new)) (Rose (S.faults sink.old) (S.faults sink.new))
+        (S.written sink.old) (S.written sink.new) result) }
+    ensures always { Always (row_of (map string_bytes words.now)) (Rose (S.faults sink.old) (S.faults sink.new))
+        (S.written sink.old) (S.written sink.new) result }
 {
     match command_of(words) {
         None => end(USAGE, Status::Usage, sink),
@@ -43,9 +74,13 @@ fn hart<F: Files, S: Sink>(
     files: &mut F,
     sink: &mut S,
 ) -> Status
+    ensures held { F.held files.new ≡ F.held files.old }
+    ensures read { F.faults files.old ≤ F.faults files.new }
+    ensures written { S.faults sink.old ≤ S.faults sink.new }
     ensures answers { IfSome (F.held files.old) (λ at. Answers (due_of (row_text (Hart image.now most) at))
         (Rose (F.faults files.old) (F.faults files.new)) (Rose (S.faults sink.old) (S.faults sink.new))
         (S.written sink.old) (S.written sink.new) result) }
+    ensures settles { Settles (Rose (S.faults sink.old) (S.faults sink.new)) (S.written sink.old) (S.written sink.new) result }
 {
     match hart_ran(alloc, image, most, files) {
         Err(stop) => stopped(stop, sink),
