@@ -32,7 +32,7 @@ pub ends_answers : (due : Due) (f s : Type 0) (old new : Option (List ℕ)) (tex
 ends_answers due f s old new text status result w is ends =
     let P : Due → Type 0 = λ d. Answers d f s old new result in
     subst P (sym is) (elim ends [
-      inl whole ↦ subst (λ r. Answers (record { status = status; text = text }) f s old new r) (sym whole.0) (whole_answers (record { status = status; text = text }) f s old new status w refl whole.1)
+      | inl whole ↦ subst (λ r. Answers (record { status = status; text = text }) f s old new r) (sym whole.0) (whole_answers (record { status = status; text = text }) f s old new status w refl whole.1)
       | inr fault ↦ subst (λ r. Answers (record { status = status; text = text }) f s old new r) (sym fault.0) (fault.1, fault.2)
     ])
 
@@ -42,7 +42,7 @@ stopped_answers first text None f s old new stop result why ends = tt
 stopped_answers first text (Some a) f s old new ReadFault result why ends =
     let due = due_of (first a >>= λ x. Ok (text x)) in
     let fault : (due.status ≡ StatusReadFault) ⊎ f = elim why [
-      inl is ↦ inl (ap (λ r. (due_of (r >>= λ x. Ok (text x))).status) is)
+      | inl is ↦ inl (ap (λ r. (due_of (r >>= λ x. Ok (text x))).status) is)
       | inr rose ↦ inr rose
     ] in
     subst (λ r. Answers due f s old new r) (sym ends.0) (fault, ends.1)

@@ -93,12 +93,7 @@ fn image_ran(image: &[u8], most: u32) -> Result<Ran, Stop>
 
 /// Reads an image and runs it alone, for at most so many instructions.
 #[tactic(auto, using(crate::proofs::Steps::gives_then, crate::proofs::Steps::stops_after), unfolding(crate::specs::Due::hart_ran))]
-pub fn hart_ran<F: Files>(
-    alloc: Global,
-    name: &str,
-    most: u32,
-    files: &mut F,
-) -> Result<Ran, Stop>
+pub fn hart_ran<F: Files>(alloc: Global, name: &str, most: u32, files: &mut F) -> Result<Ran, Stop>
     ensures held { F.held files.new ≡ F.held files.old }
     ensures counted { F.faults files.old ≤ F.faults files.new }
     ensures ran { Gives (λ r. r) (option_map (hart_ran name.now most) (F.held files.old))
@@ -130,12 +125,24 @@ fn run<B: Bus>(mut hart: Hart, bus: &mut B, most: u32) -> Ran
             Out::Done => {}
             Out::Call => {
                 hart.pc = pc;
-                return Ran { steps, end: End::Call, hart };
+                return Ran {
+                    steps,
+                    end: End::Call,
+                    hart,
+                };
             }
-            Out::Fault(cause) => return Ran { steps, end: End::Fault(cause), hart },
+            Out::Fault(cause) => return Ran {
+                steps,
+                end: End::Fault(cause),
+                hart,
+            },
         }
     }
-    Ran { steps: most, end: End::Count, hart }
+    Ran {
+        steps: most,
+        end: End::Count,
+        hart,
+    }
 }
 
 /// Appends how a run ended.

@@ -45,12 +45,7 @@ pub fn board_still<F: Files, S: Sink>(
 }
 
 /// The answer of `board_still`.
-fn answer<F: Files, S: Sink>(
-    alloc: Global,
-    words: &[String],
-    files: &mut F,
-    sink: &mut S,
-) -> Status
+fn answer<F: Files, S: Sink>(alloc: Global, words: &[String], files: &mut F, sink: &mut S) -> Status
     ensures held { F.held files.new ≡ F.held files.old }
     ensures read { F.faults files.old ≤ F.faults files.new }
     ensures written { S.faults sink.old ≤ S.faults sink.new }

@@ -10,5 +10,4 @@ ghost use Rattle.machine_words.specs.Word.{word_at, bytes_of_word};
 /// A word is the word of its own four bytes (RISC-V Unprivileged ISA Manual, little-endian memory).
 pub fn word_is_its_bytes()
     ensures { (w : ℕ) → w < 2 ^ 32 → word_at (bytes_of_word w) 0 ≡ w }
-{
-}
+{}
