@@ -14,6 +14,10 @@ mod tests;
 mod words;
 
 pub use refusal::PreErr;
+pub use rules::{
+    FIRST_MAJOR, LAST_MAJOR, LEAST_STACK, MEMORY_PROTECTION, MODULE_ID, MOST_DATA, MOST_STACK,
+    PREAMBLE_BYTES, PREAMBLE_WORDS, PRIORITIES, USER_MODE,
+};
 pub use words::Preamble;
 
 /// The words of an image's preamble, or the refusal of the first rule that it breaks.
