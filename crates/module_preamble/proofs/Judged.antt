@@ -1,5 +1,5 @@
 -- How a table of rules judges in parts, and what an accepted image keeps.
-use Rattle.std.proofs.Common.{◌≡◌, Bool, true, false, cond, List, [], ◌∷◌, ◌++◌, Result, Ok, Err, refl, append-nil}
+use Rattle.std.proofs.Common.{◌≡◌, true, false, cond, List, [], ◌∷◌, ◌++◌, Ok, Err, refl, append-nil}
 use Rattle.module_preamble.specs.Preamble.{Rule, judged}
 use Rattle.module_preamble.specs.declared.refusal.PreErr.{PreErr}
 
