@@ -1,12 +1,11 @@
 -- What an accepted image keeps: each rule of the table, read as facts on its words.
-use Rattle.std.proofs.Common.{◌≡◌, ◌≤◌, ◌<◌, ◌%◌, ℕ, Bool, true, false, cond, List, [], ◌∷◌, ◌++◌, length, Result, Ok, Err, refl, sym, subst, arith, IsTrue, not, ◌==◌, ◌||◌, nat_lt}
+use Rattle.std.proofs.Common.{◌≡◌, ◌≤◌, ◌<◌, ◌%◌, ℕ, Bool, true, false, cond, List, [], ◌∷◌, length, Ok, Err, refl, arith, IsTrue, not, ◌==◌, ◌||◌, nat_lt}
 use Rattle.std.specs.List.{AllByRecursion}
 use Rattle.std.proofs.lemmas.Bool.Decides.{nat_tests}
 use Rattle.module_preamble.specs.Words.{words_of, has_callback}
-use Rattle.module_preamble.specs.Preamble.{Rule, judged, rules, length_rules, identity_rules, size_rules, entry_rules, priority_rules, stack_rules, preamble, is_entry, is_optional_entry, is_stack, IsEntry, IsStack, IsAccepted}
+use Rattle.module_preamble.specs.Preamble.{Rule, judged, size_rules, entry_rules, priority_rules, stack_rules, is_entry, is_optional_entry, is_stack, IsEntry, IsStack, IsAccepted}
 use Rattle.module_preamble.specs.declared.rules.TheConstants.{MOST_DATA, PRIORITIES}
 use Rattle.module_preamble.specs.declared.words.Preamble.{Preamble}
-use Rattle.module_preamble.specs.declared.refusal.PreErr.{PreErr}
 
 abbrev Holds : Rule → Type 0
 Holds r = IsTrue r.holds

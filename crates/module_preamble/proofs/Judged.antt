@@ -1,5 +1,5 @@
 -- How a table of rules judges in parts, and what an accepted image keeps.
-use Rattle.std.proofs.Common.{◌≡◌, Bool, true, false, cond, List, [], ◌∷◌, ◌++◌, Result, Ok, Err, refl}
+use Rattle.std.proofs.Common.{◌≡◌, true, false, cond, List, [], ◌∷◌, ◌++◌, Ok, Err, refl, append-nil}
 use Rattle.module_preamble.specs.Preamble.{Rule, judged}
 use Rattle.module_preamble.specs.declared.refusal.PreErr.{PreErr}
 
@@ -25,23 +25,12 @@ judged-passed (r ∷ a) b x y z h =
 
 -- a whole table refuses each value alike
 pub judged-refuses : {X Y : Type 0} (a : List Rule) (x : X) (y : Y) (e : PreErr) → judged a y ≡ Err e → judged a x ≡ Err e
-unfolding judged
-judged-refuses [] x y e h = (cc)
-judged-refuses (r ∷ a) x y e h =
-    elim r.holds as (λ v. cond v (judged a y) (Err r.refusal) ≡ Err e → cond v (judged a x) (Err r.refusal) ≡ Err e) [
-      | true ↦ λ rest. judged-refuses a x y e rest
-      | false ↦ λ same. (cc)
-    ] h
+judged-refuses a x y e h = rw append-nil at (judged-refused a [] x y e h)
 
 -- and lets each value pass alike
 pub judged-passes : {X Y : Type 0} (a : List Rule) (x : X) (y z : Y) → judged a y ≡ Ok z → judged a x ≡ Ok x
 unfolding judged
-judged-passes [] x y z h = refl
-judged-passes (r ∷ a) x y z h =
-    elim r.holds as (λ v. cond v (judged a y) (Err r.refusal) ≡ Ok z → cond v (judged a x) (Err r.refusal) ≡ Ok x) [
-      | true ↦ λ rest. judged-passes a x y z rest
-      | false ↦ λ same. (cc)
-    ] h
+judged-passes a x y z h = rw append-nil at (judged-passed a [] x y z h)
 
 -- a table that is judged part by part
 pub ruleset parts = (judged-refused, judged-passed, judged-refuses, judged-passes)

@@ -16,7 +16,7 @@ pub record Rule : Type 0 where
 abbrev pub rule : Bool → PreErr → Rule
 rule holds refusal = record { holds = holds; refusal = refusal }
 
--- a value under a table of rules: the refusal of the first rule that doesn't hold, else the value
+-- a value that a table of rules judges: the refusal of the first rule that doesn't hold, else the value
 unfoldable pub judged : {X : Type 0} → List Rule → X → Result X PreErr
 judged [] x = Ok x
 judged (r ∷ rules) x = if r.holds then judged rules x else Err r.refusal
@@ -29,12 +29,15 @@ is_entry p w = (w % 4 == 0) && nat_le PREAMBLE_BYTES w && nat_lt w p.code_size
 abbrev pub is_optional_entry : Preamble → ℕ → Bool
 is_optional_entry p w = (w == 0) || is_entry p w
 
+-- a size that a stack may have
 abbrev pub is_stack : ℕ → Bool
 is_stack w = nat_le LEAST_STACK w && nat_le w MOST_STACK
 
+-- an image has room for a preamble
 unfoldable pub length_rules : List ℕ → List Rule
 length_rules bytes = rule (nat_le PREAMBLE_BYTES (length bytes)) (Short (length bytes)) ∷ []
 
+-- the preamble is that of a module in a known version, which runs in user mode under memory protection
 unfoldable pub identity_rules : Preamble → List Rule
 identity_rules p =
     rule (p.id == MODULE_ID) (BadId p.id)
@@ -43,12 +46,14 @@ identity_rules p =
     ∷ rule ((bit_at p.props USER_MODE == 1) && (bit_at p.props MEMORY_PROTECTION == 1)) (BadProps p.props)
     ∷ []
 
+-- the code is the whole image, and the data has a bound
 unfoldable pub size_rules : ℕ → Preamble → List Rule
 size_rules len p =
     rule ((p.code_size % 4 == 0) && (p.code_size == len)) (BadCode p.code_size)
     ∷ rule (nat_le p.data_size MOST_DATA) (BadData p.data_size)
     ∷ []
 
+-- shell and start are entries; stop and callback are, or are none
 unfoldable pub entry_rules : Preamble → List Rule
 entry_rules p =
     rule (is_entry p p.shell) (BadEntry 0 p.shell)
@@ -57,35 +62,37 @@ entry_rules p =
     ∷ rule (is_optional_entry p p.callback) (BadEntry 3 p.callback)
     ∷ []
 
+-- the callback thread's priority is looked at where there is one
 unfoldable pub priority_rules : Preamble → List Rule
 priority_rules p =
     rule (nat_lt p.start_prio PRIORITIES) (BadPrio 0 p.start_prio)
     ∷ rule (not (has_callback p) || nat_lt p.callback_prio PRIORITIES) (BadPrio 1 p.callback_prio)
     ∷ []
 
+-- and so is its stack
 unfoldable pub stack_rules : Preamble → List Rule
 stack_rules p =
     rule (is_stack p.start_stack) (BadStack 0 p.start_stack)
     ∷ rule (not (has_callback p) || is_stack p.callback_stack) (BadStack 1 p.callback_stack)
     ∷ []
 
--- the table
+-- the table: every rule, in order
 unfoldable pub rules : List ℕ → List Rule
 rules bytes =
     let p = words_of bytes in
     length_rules bytes ++ (identity_rules p ++ (size_rules (length bytes) p ++ (entry_rules p ++ (priority_rules p ++ stack_rules p))))
 
--- what reading an image gives
+-- what reading an image gives: its words, or the refusal of the first rule that doesn't hold
 unfoldable pub preamble : List ℕ → Result Preamble PreErr
 preamble bytes = judged (rules bytes) (words_of bytes)
 
--- the offset of an instruction behind the preamble
+-- a word is the offset of an instruction behind the preamble
 pub record IsEntry (p : Preamble) (w : ℕ) : Type 0 where
   pub aligned : w % 4 ≡ 0
   pub behind : PREAMBLE_BYTES ≤ w
   pub inside : w < p.code_size
 
--- a size that a stack may have
+-- a stack may have this size
 pub record IsStack (size : ℕ) : Type 0 where
   pub least : LEAST_STACK ≤ size
   pub most : size ≤ MOST_STACK

@@ -22,12 +22,7 @@ number_of (Short len) = Some len
 number_of (BadEntry which _) = Some which
 number_of (BadPrio which _) = Some which
 number_of (BadStack which _) = Some which
-number_of (BadId _) = None
-number_of (BadMajor _) = None
-number_of (BadSize _) = None
-number_of (BadProps _) = None
-number_of (BadCode _) = None
-number_of (BadData _) = None
+number_of _ = None
 
 -- the word that breaks the rule
 abbrev pub word_of : PreErr → Option ℕ

@@ -9,9 +9,15 @@ ghost use Rattle.module_preamble.specs.Preamble.{preamble, IsAccepted};
 
 mod refusal;
 mod rules;
+#[cfg(test)]
+mod tests;
 mod words;
 
 pub use refusal::PreErr;
+pub use rules::{
+    FIRST_MAJOR, LAST_MAJOR, LEAST_STACK, MEMORY_PROTECTION, MODULE_ID, MOST_DATA, MOST_STACK,
+    PREAMBLE_BYTES, PREAMBLE_WORDS, PRIORITIES, USER_MODE,
+};
 pub use words::Preamble;
 
 /// The words of an image's preamble, or the refusal of the first rule that it breaks.

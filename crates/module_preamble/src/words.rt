@@ -6,6 +6,7 @@ ghost use Rattle.std.specs.Prelude.{◌≡◌, ◌+◌, ◌≤◌, length};
 ghost use Rattle.machine_words.specs.Word.{word_at};
 ghost use Rattle.module_preamble.specs.Words.{words_of, has_callback};
 
+use crate::PREAMBLE_BYTES;
 use byteorder::{ByteOrder, LittleEndian};
 
 /// The words of a module preamble, in the order of the ThreadX Modules User Guide. Entries are
@@ -49,7 +50,7 @@ pub struct Preamble {
 impl Preamble {
     /// The words at the head of an image that has room for them.
     pub(crate) fn of(image: &[u8]) -> Preamble
-        requires { 128 ≤ length image.now }
+        requires { PREAMBLE_BYTES ≤ length image.now }
         ensures { result ≡ words_of image.now }
     {
         Preamble {
