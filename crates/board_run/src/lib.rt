@@ -8,6 +8,6 @@ mod files;
 mod sink;
 mod status;
 
-pub use files::{Files, ReadErr};
+pub use files::{Files, MemFiles, ReadErr};
 pub use sink::{Sink, SureSink, WriteErr};
 pub use status::Status;
