@@ -9,5 +9,5 @@ mod sink;
 mod status;
 
 pub use files::{Files, MemFiles, ReadErr};
-pub use sink::{Sink, SureSink, WriteErr};
+pub use sink::{MemSink, Sink, SureSink, WriteErr};
 pub use status::Status;
