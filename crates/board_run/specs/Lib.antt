@@ -1,3 +1,4 @@
+pub mod Command
 pub mod Distinct
 pub mod Faults
 pub mod Files

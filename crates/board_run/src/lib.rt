@@ -4,10 +4,12 @@
 //! contracts. Both count their faults: a call that failed by the outside shows it by a higher count.
 #![tactic(auto)]
 
+mod command;
 mod files;
 mod sink;
 mod status;
 
+pub use command::{Command, MOST_STEPS, command_of};
 pub use files::{Files, MemFiles, ReadErr};
 pub use sink::{MemSink, Sink, SureSink, WriteErr};
 pub use status::Status;
