@@ -1,8 +1,32 @@
--- stub
-use Rattle.std.specs.Prelude.{ℕ, List, [], ◌∷◌, Option, Some, None}
+-- The table of commands: what a list of words, those after the program's name, asks for.
+use Rattle.std.specs.Prelude.{ℕ, ◌&&◌, nat_le, if◌then◌else◌, List, [], ◌∷◌, Option, None, Some, codes}
+use Rattle.std.specs.Fmt.{decimal}
+use Rattle.std.specs.Option.{option_map}
+use Rattle.std.specs.Str.{bytes_eq}
+use Rattle.std.specs.Str.Parse.{digits_value}
+use Rattle.board_run.specs.declared.command.Command.{Command}
+use Rattle.board_run.specs.declared.command.Command.TheVariants as command
+use Rattle.board_run.specs.declared.command.TheConstants.{MOST_STEPS}
 
+-- a command with its operands
 pub data Row : Type 0 where
   Hart : (image : List ℕ) (most : ℕ) → Row
 
-unfoldable pub row_of : List (List ℕ) → Option Row
-row_of words = None
+-- the number of a word, which is its decimal text (so no sign and no leading zero), where it is at most so much
+abbrev pub number : List ℕ → (most : ℕ) → Option ℕ
+number word most =
+    let n = digits_value 10 word in if bytes_eq (decimal n) word && nat_le n most then Some n else None
+
+-- hart IMAGE N
+abbrev pub hart_row : List (List ℕ) → Option Row
+hart_row (image ∷ steps ∷ []) = option_map (Hart image) (number steps MOST_STEPS)
+hart_row _ = None
+
+-- the first word names the command, and each command has its own number of words
+abbrev pub row_of : List (List ℕ) → Option Row
+row_of [] = None
+row_of (name ∷ words) = if bytes_eq name (codes "hart") then hart_row words else None
+
+-- a command as a row
+abbrev pub row : Command → Row
+row (command.Hart image most) = Hart image.now most

@@ -1,6 +1,6 @@
 pub mod Answer
 pub mod Command
-pub mod CommandRow
+pub mod Distinct
 pub mod Due
 pub mod Ending
 pub mod Faults

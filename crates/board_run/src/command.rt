@@ -1,17 +1,61 @@
-//! stub
-ghost use Rattle.std.specs.Prelude.{◌≡◌, map, string_bytes, None};
+//! The words of the command line, and the command that they ask for.
+//!
+//! Words are compared whole and their number is exact; a list of words in no row of the table is no
+//! command. Operands are borrowed from the words.
+ghost use Rattle.std.specs.Prelude.{◌≡◌, map, string_bytes};
 ghost use Rattle.std.specs.Option.{option_map};
-ghost use Rattle.board_run.specs.Command.{row_of};
-ghost use Rattle.board_run.specs.CommandRow.{row};
+ghost use Rattle.board_run.specs.Command.{number, hart_row, row_of, row};
 
+use itoa::Buffer;
+
+/// The most instructions that `hart` may be asked to execute.
+pub const MOST_STEPS: u32 = 100_000_000;
+
+/// A command with its operands.
 #[derive(Clone, Copy, Debug, PartialEq, Eq)]
 pub enum Command<'a> {
+    /// Execute at most `most` instructions of the module image in the file `image`.
     Hart { image: &'a str, most: u32 },
 }
 
-#[tactic(auto, unfolding(crate::specs::Command::row_of))]
-pub fn command_of(_words: &[String]) -> Option<Command<'_>>
-    ensures { option_map row result ≡ row_of (map string_bytes _words.now) }
+/// The command that the words after the program's name ask for, or none where they are in no row of
+/// the table.
+pub fn command_of(words: &[String]) -> Option<Command<'_>>
+    ensures { option_map row result ≡ row_of (map string_bytes words.now) }
 {
-    None
+    let (name, operands) = words.split_first()?;
+    match name.as_str() {
+        "hart" => hart(operands),
+        _ => None,
+    }
 }
+
+fn hart(operands: &[String]) -> Option<Command<'_>>
+    ensures { option_map row result ≡ hart_row (map string_bytes operands.now) }
+{
+    match operands {
+        [image, steps] => {
+            let most = number(steps.as_str(), MOST_STEPS)?;
+            Some(Command::Hart {
+                image: image.as_str(),
+                most,
+            })
+        }
+        _ => None,
+    }
+}
+
+fn number(word: &str, most: u32) -> Option<u32>
+    ensures { result ≡ number word.now most }
+{
+    let n = word.parse::<u32>().ok()?;
+    let mut buffer = Buffer::new();
+    if n <= most && buffer.format(n) == word {
+        Some(n)
+    } else {
+        None
+    }
+}
+
+#[cfg(test)]
+mod tests;

@@ -1,4 +1,4 @@
-//! The still machine's command line: its words, the files it reads, the sink it writes to, its statuses.
+//! The command line: its words, the files it reads, the sink it writes to, and how it ends.
 //!
 //! Files and sinks are traits, so that what is read and written can be held in memory and told in
 //! contracts. Both count their faults: a call that failed by the outside shows it by a higher count.
@@ -14,8 +14,9 @@ mod sink;
 mod status;
 mod still;
 
-pub use files::{Files, ReadErr};
+pub use command::{Command, MOST_STEPS, command_of};
+pub use files::{Files, MemFiles, ReadErr};
 pub use refusal::{Refusal, Stop};
-pub use sink::{Sink, SureSink, WriteErr};
+pub use sink::{MemSink, Sink, SureSink, WriteErr};
 pub use status::Status;
 pub use still::board_still;

@@ -2,8 +2,12 @@
 //!
 //! A piece is appended whole, or the write fails: then a front of the piece is appended and the count
 //! of faults is higher, a count that never falls.
-ghost use Rattle.std.specs.Prelude.{◌≡◌, ℕ, ◌≤◌, List, Option, None, IsOk};
-ghost use Rattle.board_run.specs.Sink.{Wrote};
+ghost use Rattle.std.specs.Prelude.{◌≡◌, ℕ, ◌≤◌, List, [], map, Option, None, Some, IsTrue, is_err};
+ghost use Rattle.board_run.specs.Distinct.{numbers_differ};
+ghost use Rattle.board_run.specs.Sink.{Wrote, kept_by, kept_next, AppendsKept, after_write};
+
+use std::alloc::Global;
+use std::marker::Model;
 
 /// Why a piece wasn't written whole: a fault of writing.
 #[derive(Clone, Copy, Debug, PartialEq, Eq)]
@@ -39,3 +43,89 @@ impl Sink for SureSink {
         Ok(())
     }
 }
+
+/// A sink in memory. The writes whose numbers were given, counted from 1, fail and keep a front of
+/// their piece.
+#[derive(Drop)]
+pub struct MemSink {
+    written: Vec<u8>,
+    fails: Vec<(u32, u32)>,
+    writes: u64,
+    faults: u64,
+}
+
+impl Model for MemSink {
+    ghost use Rattle.board_run.specs.Sink.{SinkInMemory};
+
+    ghost Value = { SinkInMemory };
+
+    ghost view = { λ s. record { written = s.written.items; fails = s.fails.items; writes = s.writes; faults = s.faults } };
+}
+
+impl MemSink {
+    /// Nothing written, and nothing allocated. A pair `(k, j)` says that write k is to fail and keeps
+    /// the first j bytes of its piece, or the whole piece where it has fewer; the numbers k differ.
+    pub fn new(alloc: Global, fails: Vec<(u32, u32)>) -> MemSink
+        requires { IsTrue (numbers_differ (map (λ fail. fail.0) fails.items)) }
+        ensures { result ≡ record { written = []; fails = fails.items; writes = 0; faults = 0 } }
+    {
+        MemSink {
+            written: Vec::new(alloc),
+            fails,
+            writes: 0,
+            faults: 0,
+        }
+    }
+
+    /// What was written.
+    pub fn bytes(&self) -> &[u8]
+        ensures { result.now ≡ self.now.written }
+    {
+        self.written.as_slice()
+    }
+}
+
+impl Sink for MemSink {
+    ghost written = { λ s. Some s.written };
+
+    ghost faults = { λ s. s.faults };
+
+    fn write(&mut self, bytes: &[u8]) -> Result<(), WriteErr>
+        ensures counted { self.old.faults ≤ self.new.faults }
+        ensures after { self.new ≡ after_write self.old self.new.written (is_err result) }
+        ensures wrote { AppendsKept (kept_next self.old) self.old.written self.new.written bytes.now result }
+    {
+        self.writes = self.writes.saturating_add(1);
+        let kept = kept(&self.fails, self.writes);
+        let written = append(&mut self.written, kept, bytes);
+        self.faults = self.faults.saturating_add(u64::from(written.is_err()));
+        written
+    }
+}
+
+fn kept(fails: &[(u32, u32)], number: u64) -> Option<u32>
+    ensures { result ≡ kept_by fails.now number }
+{
+    for (write, kept) in fails {
+        if u64::from(*write) == number {
+            return Some(*kept);
+        }
+    }
+    None
+}
+
+fn append(written: &mut Vec<u8>, kept: Option<u32>, piece: &[u8]) -> Result<(), WriteErr>
+    ensures { AppendsKept kept written.old.items written.new.items piece.now result }
+{
+    let Some(kept) = kept else {
+        return written
+            .extend_from_slice(piece)
+            .map_err(|_| WriteErr::Failed);
+    };
+    let end = piece.len().min(kept as usize);
+    let _ = written.extend_from_slice(&piece[..end]);
+    Err(WriteErr::Failed)
+}
+
+#[cfg(test)]
+mod tests;

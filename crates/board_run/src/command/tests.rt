@@ -1,0 +1,70 @@
+//! The words of a command line, each list with the command that it asks for.
+use super::{Command, command_of, number};
+use std::alloc::{AllocError, Global};
+use std::test::Fail;
+
+fn owned(alloc: Global, texts: &[&str]) -> Result<Vec<String>, AllocError> {
+    let mut words = Vec::new(alloc);
+    for text in texts {
+        words.push(String::from_str(alloc, text)?)?;
+    }
+    Ok(words)
+}
+
+#[test]
+fn numbers_are_decimal_texts(rt: HostRuntime) {
+    let words = [
+        ("0", Some(0)),
+        ("7", Some(7)),
+        ("100000000", Some(100_000_000)),
+        ("100000001", None),
+        ("01", None),
+        ("00", None),
+        ("+1", None),
+        ("-1", None),
+        ("", None),
+        (" 1", None),
+        ("1x", None),
+        ("4294967297", None),
+        ("10000000000", None),
+    ];
+    for (word, want) in words {
+        assert_eq!(rt; number(word, 100_000_000), want, "{word:?}");
+    }
+}
+
+#[test]
+fn words_are_compared_whole(rt: HostRuntime) -> Result<(), Fail> {
+    let lists: [(&[&str], Option<Command<'_>>); 10] = [
+        (
+            &["hart", "p", "1"],
+            Some(Command::Hart {
+                image: "p",
+                most: 1,
+            }),
+        ),
+        (
+            &["hart", "", "0"],
+            Some(Command::Hart { image: "", most: 0 }),
+        ),
+        (
+            &["hart", "hart", "100000000"],
+            Some(Command::Hart {
+                image: "hart",
+                most: 100_000_000,
+            }),
+        ),
+        (&[], None),
+        (&["hart"], None),
+        (&["hart", "p"], None),
+        (&["hart", "p", "1", "2"], None),
+        (&["hart", "p", "01"], None),
+        (&["HART", "p", "1"], None),
+        (&["--help"], None),
+    ];
+    for (texts, want) in lists {
+        let words = owned(rt.alloc(), texts)?;
+        assert_eq!(rt; command_of(&words), want, "{texts:?}");
+    }
+    Ok(())
+}
