@@ -4,7 +4,7 @@ use Rattle.std.specs.Option.{option_map}
 use Rattle.std.proofs.lemmas.List.{take_all, length-take}
 use Rattle.std.proofs.lemmas.Bool.Decides.{nat_tests}
 use Rattle.board_run.specs.Due.{held_file, within, ◌>>=◌}
-use Rattle.board_run.specs.Files.{ReadsFront}
+use Rattle.board_run.specs.Files.{IsFrontOf}
 use Rattle.board_run.specs.declared.refusal.Refusal.{Refusal}
 use Rattle.board_run.specs.declared.refusal.Stop.{Stop}
 use Rattle.board_run.specs.declared.refusal.Stop.TheVariants.{Refused}
@@ -17,7 +17,7 @@ front_whole most r bytes (Some file) h small =
     let same : bytes ≡ file = h ∙ take_all (most + 1) file (omega arith) in
     rw same (grind (arith, nat_tests))
 
-pub read_whole : (most : ℕ) (r : Refusal) (name bytes : List ℕ) (held : Option (List ℕ → Option (List ℕ))) → IfSome held (ReadsFront name most bytes) → length bytes ≤ most → IfSome (option_map (λ at. held_file (at name) >>= within most r) held) (λ d. d ≡ Ok bytes)
+pub read_whole : (most : ℕ) (r : Refusal) (name bytes : List ℕ) (held : Option (List ℕ → Option (List ℕ))) → IfSome held (λ at. IsFrontOf (at name) most bytes) → length bytes ≤ most → IfSome (option_map (λ at. held_file (at name) >>= within most r) held) (λ d. d ≡ Ok bytes)
 read_whole most r name bytes None h small = tt
 read_whole most r name bytes (Some at) h small = front_whole most r bytes (at name) h small
 
@@ -28,6 +28,6 @@ front_too_large most r bytes (Some file) h large =
     let long : most < length file = omega (arith, ap length h, length-take (most + 1) file) in
     grind (arith, nat_tests)
 
-pub read_too_large : (most : ℕ) (r : Refusal) (name bytes : List ℕ) (held : Option (List ℕ → Option (List ℕ))) → IfSome held (ReadsFront name most bytes) → most < length bytes → IfSome (option_map (λ at. held_file (at name) >>= within most r) held) (λ d. d ≡ Err (Refused r))
+pub read_too_large : (most : ℕ) (r : Refusal) (name bytes : List ℕ) (held : Option (List ℕ → Option (List ℕ))) → IfSome held (λ at. IsFrontOf (at name) most bytes) → most < length bytes → IfSome (option_map (λ at. held_file (at name) >>= within most r) held) (λ d. d ≡ Err (Refused r))
 read_too_large most r name bytes None h large = tt
 read_too_large most r name bytes (Some at) h large = front_too_large most r bytes (at name) h large

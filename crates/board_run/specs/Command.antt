@@ -23,7 +23,7 @@ hart_row (image ∷ steps ∷ []) = option_map (Hart image) (number steps MOST_S
 hart_row _ = None
 
 -- the first word names the command, and each command has its own number of words
-abbrev pub row_of : List (List ℕ) → Option Row
+unfoldable pub row_of : List (List ℕ) → Option Row
 row_of [] = None
 row_of (name ∷ words) = if bytes_eq name (codes "hart") then hart_row words else None
 
