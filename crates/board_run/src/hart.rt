@@ -13,7 +13,7 @@ ghost use Rattle.board_run.specs.Faults.{Rose};
 ghost use Rattle.board_run.specs.Opening.{IsPlaceable};
 ghost use Rattle.board_run.specs.Reading.{Gives};
 ghost use Rattle.board_run.specs.Sink.{Wrote};
-ghost use Rattle.board_run.specs.Hart.{ran, hart_text, image_byte, image_lets_fetch, end_text, fault_text, steps_line, pc_line, regs_line, words_text};
+ghost use Rattle.board_run.specs.Hart.{ran, hart_text, image_byte, image_lets_fetch, end_text, fault_text, newline, steps_line, pc_line, regs_line, words_text};
 
 use crate::files::Files;
 use crate::opening::opening;
@@ -125,24 +125,19 @@ fn run<B: Bus>(mut hart: Hart, bus: &mut B, most: u32) -> Ran
             Out::Done => {}
             Out::Call => {
                 hart.pc = pc;
-                return Ran {
-                    steps,
-                    end: End::Call,
-                    hart,
-                };
+                return ran_to(steps, End::Call, hart);
             }
-            Out::Fault(cause) => return Ran {
-                steps,
-                end: End::Fault(cause),
-                hart,
-            },
+            Out::Fault(cause) => return ran_to(steps, End::Fault(cause), hart),
         }
     }
-    Ran {
-        steps: most,
-        end: End::Count,
-        hart,
-    }
+    ran_to(most, End::Count, hart)
+}
+
+/// The run that ended so.
+fn ran_to(steps: u32, end: End, hart: Hart) -> Ran
+    ensures { result ≡ record { steps = steps; end = end; hart = hart } }
+{
+    Ran { steps, end, hart }
 }
 
 /// Appends how a run ended.
@@ -172,6 +167,14 @@ fn put_fault(line: &mut Line, number: u32)
     }
 }
 
+/// Ends a line.
+fn end_line(line: &mut Line)
+    requires { array_string_len line.old + 1 ≤ 1280 }
+    ensures bytes { line.new.bytes ≡ line.old.bytes ++ newline }
+{
+    line.push_str("\n");
+}
+
 /// The line of the steps and the end.
 #[tactic(auto, unfolding(crate::specs::Hart::steps_line))]
 fn steps_line(ran: &Ran) -> Line
@@ -182,7 +185,7 @@ fn steps_line(ran: &Ran) -> Line
     put_decimal(&mut line, ran.steps);
     line.push_str(" end ");
     put_end(&mut line, ran.end);
-    line.push_str("\n");
+    end_line(&mut line);
     line
 }
 
@@ -194,7 +197,7 @@ fn pc_line(ran: &Ran) -> Line
     let mut line = Line::new();
     line.push_str("pc ");
     put_hex(&mut line, ran.hart.pc);
-    line.push_str("\n");
+    end_line(&mut line);
     line
 }
 
@@ -206,7 +209,7 @@ fn regs_line(ran: &Ran) -> Line
     let mut line = Line::new();
     line.push_str("regs");
     put_words(&mut line, ran.hart.general());
-    line.push_str("\n");
+    end_line(&mut line);
     line
 }
 

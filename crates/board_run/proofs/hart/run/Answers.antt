@@ -10,7 +10,7 @@ returns-in-Fault g c =
     let bus = c.loop-steps.invariant.bus in
     let stop : out_of (effect c.loop-steps.hart) ≡ Fault c.in-Fault.cause = rw bus at (sym c.step.ensures.out ∙ c.in-Fault.is) in
     let after : c.step.new.hart ≡ hart_after (effect c.loop-steps.hart) c.loop-steps.hart = rw bus at c.step.ensures.hart in
-    sym (ran_faults effect c.loop-steps.steps c.args.most c.loop-steps.hart c.step.new.hart c.in-Fault.cause c.loop-steps-test.true stop after) ∙ c.loop-steps.invariant.rest
+    c.ran_to-in-Fault.ensures ∙ sym (ran_faults effect c.loop-steps.steps c.args.most c.loop-steps.hart c.step.new.hart c.in-Fault.cause c.loop-steps-test.true stop after) ∙ c.loop-steps.invariant.rest
 
 pub loop-steps-preserved : goal.loop-steps-preserved
 loop-steps-preserved g c =
