@@ -87,3 +87,6 @@ fn put_rule(line: &mut Line, err: &PreErr)
         put_hex(line, word);
     }
 }
+
+#[cfg(test)]
+mod tests;

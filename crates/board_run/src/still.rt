@@ -118,3 +118,6 @@ fn end<S: Sink>(text: &str, status: Status, sink: &mut S) -> Status
         Err(_) => Status::WriteFault,
     }
 }
+
+#[cfg(test)]
+mod tests;
