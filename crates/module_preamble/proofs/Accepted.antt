@@ -7,6 +7,7 @@ use Rattle.module_preamble.specs.Preamble.{Rule, judged, size_rules, entry_rules
 use Rattle.module_preamble.specs.declared.rules.TheConstants.{MOST_DATA, PRIORITIES}
 use Rattle.module_preamble.specs.declared.words.Preamble.{Preamble}
 
+-- the rule's test is true
 abbrev Holds : Rule → Type 0
 Holds r = IsTrue r.holds
 
@@ -20,6 +21,7 @@ kept (r ∷ a) x y h =
       | false ↦ λ no. (cc)
     ] h
 
+-- the tests of an entry and of a stack, read as facts
 entry : (p : Preamble) (w : ℕ) → is_entry p w ≡ true → IsEntry p w
 entry p w h = record { aligned = grind (arith, nat_tests); behind = grind (arith, nat_tests); inside = grind (arith, nat_tests) }
 
@@ -29,6 +31,7 @@ optional_entry p w h some = entry p w (grind (arith, nat_tests))
 stack : (w : ℕ) → is_stack w ≡ true → IsStack w
 stack w h = record { least = grind (arith, nat_tests); most = grind (arith, nat_tests) }
 
+-- the rules of each part of the table, read as facts
 sizes : (len : ℕ) (p : Preamble) → AllByRecursion Holds (size_rules len p) → (p.code_size ≡ len) × (p.code_size % 4 ≡ 0) × (p.data_size ≤ MOST_DATA)
 unfolding size_rules
 sizes len p h = (grind (arith, nat_tests), grind (arith, nat_tests), grind (arith, nat_tests))
@@ -37,7 +40,8 @@ entries : (p : Preamble) → AllByRecursion Holds (entry_rules p) → IsEntry p 
 unfolding entry_rules
 entries p h = (entry p p.shell h.0, entry p p.start h.1.0, λ some. optional_entry p p.callback h.1.1.1.0 some)
 
-where_callback : (b : Bool) (c : Bool) → (not b || c) ≡ true → IsTrue b → c ≡ true
+-- a rule about the callback thread, where there is one
+where_callback : (b c : Bool) → (not b || c) ≡ true → IsTrue b → c ≡ true
 where_callback true c h some = h
 where_callback false c h some = (cc)
 

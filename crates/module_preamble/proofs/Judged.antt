@@ -1,4 +1,4 @@
--- How a table of rules judges in parts, and what an accepted image keeps.
+-- How a table of rules judges part by part.
 use Rattle.std.proofs.Common.{◌≡◌, true, false, cond, List, [], ◌∷◌, ◌++◌, Ok, Err, refl, append-nil}
 use Rattle.module_preamble.specs.Preamble.{Rule, judged}
 use Rattle.module_preamble.specs.declared.refusal.PreErr.{PreErr}
@@ -7,7 +7,7 @@ use Rattle.module_preamble.specs.declared.refusal.PreErr.{PreErr}
 pub judged-refused : {X Y : Type 0} (a b : List Rule) (x : X) (y : Y) (e : PreErr) → judged a y ≡ Err e → judged (a ++ b) x ≡ Err e
 unfolding judged
 judged-refused [] b x y e h = (cc)
-judged-refused {X = X} {Y = Y} (r ∷ a) b x y e h =
+judged-refused (r ∷ a) b x y e h =
     elim r.holds as (λ v. cond v (judged a y) (Err r.refusal) ≡ Err e → cond v (judged (a ++ b) x) (Err r.refusal) ≡ Err e) [
       | true ↦ λ rest. judged-refused a b x y e rest
       | false ↦ λ same. (cc)
@@ -32,5 +32,5 @@ pub judged-passes : {X Y : Type 0} (a : List Rule) (x : X) (y z : Y) → judged 
 unfolding judged
 judged-passes a x y z h = rw append-nil at (judged-passed a [] x y z h)
 
--- a table that is judged part by part
+-- the four together
 pub ruleset parts = (judged-refused, judged-passed, judged-refuses, judged-passes)

@@ -20,7 +20,8 @@ pub use rules::{
 };
 pub use words::Preamble;
 
-/// The words of an image's preamble, or the refusal of the first rule that it breaks.
+/// The words of an image's preamble, or the refusal of the first rule that it breaks. The rules are
+/// tested in the order in which `PreErr` lists them.
 #[tactic(auto, using(crate::proofs::Judged::parts, crate::proofs::Accepted::accepted), unfolding(crate::specs::Preamble::preamble, crate::specs::Preamble::rules))]
 pub fn read(image: &[u8]) -> Result<Preamble, PreErr>
     ensures preamble { result ≡ preamble image.now }

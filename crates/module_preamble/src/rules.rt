@@ -32,13 +32,14 @@ pub const LEAST_STACK: u32 = 64;
 /// The largest size of a thread's stack.
 pub const MOST_STACK: u32 = 65_536;
 
-/// One rule of the table.
+/// One rule: the refusal where it doesn't hold.
 fn ensure(holds: bool, refusal: PreErr) -> Result<(), PreErr>
     ensures { result ≡ (if holds then Ok tt else Err refusal) }
 {
     if holds { Ok(()) } else { Err(refusal) }
 }
 
+/// Whether an image has room for a preamble.
 #[tactic(auto, unfolding(crate::specs::Preamble::judged, crate::specs::Preamble::length_rules))]
 pub fn check_length(image: &[u8]) -> Result<(), PreErr>
     ensures rules { result ≡ judged (length_rules image.now) tt }
@@ -50,6 +51,7 @@ pub fn check_length(image: &[u8]) -> Result<(), PreErr>
     Ok(())
 }
 
+/// Whether the preamble is that of a module in a known version, with the two properties that it must have.
 #[tactic(auto, unfolding(crate::specs::Preamble::judged, crate::specs::Preamble::identity_rules))]
 pub fn check_identity(p: &Preamble) -> Result<(), PreErr>
     ensures { result ≡ judged (identity_rules p.now) tt }
@@ -66,17 +68,19 @@ pub fn check_identity(p: &Preamble) -> Result<(), PreErr>
     )
 }
 
+/// Whether the code is the whole image, of so many bytes, and the data has a size that it may have.
 #[tactic(auto, unfolding(crate::specs::Preamble::judged, crate::specs::Preamble::size_rules))]
-pub fn check_sizes(p: &Preamble, length: usize) -> Result<(), PreErr>
-    ensures { result ≡ judged (size_rules length p.now) tt }
+pub fn check_sizes(p: &Preamble, len: usize) -> Result<(), PreErr>
+    ensures { result ≡ judged (size_rules len p.now) tt }
 {
     ensure(
-        p.code_size % 4 == 0 && p.code_size as usize == length,
+        p.code_size.is_multiple_of(4) && p.code_size as usize == len,
         PreErr::BadCode(p.code_size),
     )?;
     ensure(p.data_size <= MOST_DATA, PreErr::BadData(p.data_size))
 }
 
+/// Whether each entry lies in the code.
 #[tactic(auto, unfolding(crate::specs::Preamble::judged, crate::specs::Preamble::entry_rules))]
 pub fn check_entries(p: &Preamble) -> Result<(), PreErr>
     ensures { result ≡ judged (entry_rules p.now) tt }
@@ -90,6 +94,7 @@ pub fn check_entries(p: &Preamble) -> Result<(), PreErr>
     )
 }
 
+/// Whether each priority is one that there is.
 #[tactic(auto, unfolding(crate::specs::Preamble::judged, crate::specs::Preamble::priority_rules))]
 pub fn check_priorities(p: &Preamble) -> Result<(), PreErr>
     ensures { result ≡ judged (priority_rules p.now) tt }
@@ -101,6 +106,7 @@ pub fn check_priorities(p: &Preamble) -> Result<(), PreErr>
     )
 }
 
+/// Whether each stack has a size that it may have.
 #[tactic(auto, unfolding(crate::specs::Preamble::judged, crate::specs::Preamble::stack_rules))]
 pub fn check_stacks(p: &Preamble) -> Result<(), PreErr>
     ensures { result ≡ judged (stack_rules p.now) tt }
@@ -124,7 +130,7 @@ fn is_set(word: u32, bit: u32) -> bool
 fn is_entry(p: &Preamble, word: u32) -> bool
     ensures { result ≡ is_entry p.now word }
 {
-    word % 4 == 0 && word >= PREAMBLE_BYTES && word < p.code_size
+    word.is_multiple_of(4) && word >= PREAMBLE_BYTES && word < p.code_size
 }
 
 /// Whether a word is an entry, or 0 for none.
