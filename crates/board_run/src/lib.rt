@@ -9,7 +9,7 @@ mod files;
 mod sink;
 mod status;
 
-pub use command::{Command, MOST_STEPS, command_of};
+pub use command::{Command, command_of};
 pub use files::{Files, MemFiles, ReadErr};
 pub use sink::{MemSink, Sink, SureSink, WriteErr};
 pub use status::Status;
