@@ -11,6 +11,7 @@ use Rattle.board_run.specs.Command.{number}
 
 -- the decimal text of a number is that number
 number-decimal : (word : List ℕ) (n most : ℕ) → n < 2 ^ 64 → n ≤ most → word ≡ decimal n → number word most ≡ Some n
+unfolding number
 number-decimal word n most small fits is =
     let value : digits_value 10 word ≡ n = ap (digits_value 10) is ∙ (decimal_is_IsNumeral n small).1 in
     let text : bytes_eq (decimal (digits_value 10 word)) word ≡ true = (bytes_eq-Decides (decimal (digits_value 10 word)) word).1 (ap decimal value ∙ sym is) in
@@ -22,6 +23,7 @@ none_unless false n h = refl
 
 -- a word that is no such text is no number
 number-none : (word : List ℕ) (most : ℕ) → ((n : ℕ) → n ≤ most → word ≡ decimal n → ⊥) → number word most ≡ None
+unfolding number
 number-none word most h =
     let n = digits_value 10 word in
     none_unless (bytes_eq (decimal n) word && nat_le n most) n (λ e.

@@ -20,6 +20,7 @@ pub enum Command<'a> {
 
 /// The command that the words after the program's name ask for, or none where they are in no row of
 /// the table.
+#[tactic(auto, unfolding(crate::specs::Command::row_of))]
 pub fn command_of(words: &[String]) -> Option<Command<'_>>
     ensures { option_map row result ≡ row_of (map string_bytes words.now) }
 {
@@ -30,6 +31,7 @@ pub fn command_of(words: &[String]) -> Option<Command<'_>>
     }
 }
 
+#[tactic(auto, unfolding(crate::specs::Command::hart_row))]
 fn hart(operands: &[String]) -> Option<Command<'_>>
     ensures { option_map row result ≡ hart_row (map string_bytes operands.now) }
 {

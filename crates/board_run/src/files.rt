@@ -5,6 +5,7 @@
 ghost use Rattle.std.specs.Prelude.{◌≡◌, ℕ, ◌+◌, ◌^◌, ◌<◌, ◌≤◌, ◌==◌, List, Option, Some, IfOk, IfSome, IsErrOf, IsTrue};
 ghost use Rattle.std.specs.List.{list_any};
 ghost use Rattle.std.specs.Option.{option_copied};
+ghost use Rattle.std.specs.Str.{bytes_eq};
 ghost use Rattle.board_run.specs.Distinct.{all_differ};
 ghost use Rattle.board_run.specs.Faults.{Rose};
 ghost use Rattle.board_run.specs.Files.{IsFrontOf, IsMissing, held_by, fails_next, after_read, Answers, named, names};
@@ -63,7 +64,7 @@ impl MemFiles {
     /// The given bytes under the given names, which differ; the reads whose numbers stand in `fails`
     /// are to fail.
     pub fn new(files: Vec<(String, Vec<u8>)>, fails: Vec<u32>) -> MemFiles
-        requires { IsTrue (all_differ (names files.items)) }
+        requires { IsTrue (all_differ bytes_eq (names files.items)) }
         ensures { result ≡ record { files = named files.items; fails = fails.items; reads = 0; faults = 0 } }
     {
         MemFiles {

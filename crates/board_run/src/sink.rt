@@ -2,8 +2,8 @@
 //!
 //! A piece is appended whole, or the write fails: then a front of the piece is appended and the count
 //! of faults is higher, a count that never falls.
-ghost use Rattle.std.specs.Prelude.{◌≡◌, ℕ, ◌≤◌, List, [], map, Option, None, Some, IsTrue, is_err};
-ghost use Rattle.board_run.specs.Distinct.{numbers_differ};
+ghost use Rattle.std.specs.Prelude.{◌≡◌, ℕ, ◌≤◌, List, [], map, Option, None, Some, IsTrue, is_err, nat_eq};
+ghost use Rattle.board_run.specs.Distinct.{all_differ};
 ghost use Rattle.board_run.specs.Sink.{Wrote, kept_by, kept_next, AppendsKept, after_write};
 
 use std::alloc::Global;
@@ -66,7 +66,7 @@ impl MemSink {
     /// Nothing written, and nothing allocated. A pair `(k, j)` says that write k is to fail and keeps
     /// the first j bytes of its piece, or the whole piece where it has fewer; the numbers k differ.
     pub fn new(alloc: Global, fails: Vec<(u32, u32)>) -> MemSink
-        requires { IsTrue (numbers_differ (map (λ fail. fail.0) fails.items)) }
+        requires { IsTrue (all_differ nat_eq (map (λ fail. fail.0) fails.items)) }
         ensures { result ≡ record { written = []; fails = fails.items; writes = 0; faults = 0 } }
     {
         MemSink {
