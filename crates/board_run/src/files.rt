@@ -57,7 +57,8 @@ impl Model for MemFiles {
 
     ghost Value = { FilesInMemory };
 
-    ghost view = { λ m. record { files = named m.files.items; fails = m.fails.items; reads = m.reads; faults = m.faults } };
+    ghost view = { λ m.
+        record { files = named m.files.items; fails = m.fails.items; reads = m.reads; faults = m.faults } };
 }
 
 impl MemFiles {

@@ -1,4 +1,4 @@
-//! The still machine's command line: its words, the files it reads, the sink it writes to, its statuses.
+//! The command line: its words, the files that it reads, the sink that it writes to, and its statuses.
 //!
 //! Files and sinks are traits, so that what is read and written can be held in memory and told in
 //! contracts. Both count their faults: a call that failed by the outside shows it by a higher count.

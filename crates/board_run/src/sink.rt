@@ -27,7 +27,8 @@ pub trait Sink {
     /// appended.
     fn write(&mut self, bytes: &[u8]) -> Result<(), WriteErr>
         ensures counted { faults self.old ≤ faults self.new }
-        ensures wrote { Wrote (faults self.old) (faults self.new) (written self.old) (written self.new) bytes.now result };
+        ensures wrote { Wrote (faults self.old) (faults self.new) (written self.old) (written self.new)
+            bytes.now result };
 }
 
 /// A sink that keeps nothing, tells nothing of what was written and never fails.
@@ -59,7 +60,8 @@ impl Model for MemSink {
 
     ghost Value = { SinkInMemory };
 
-    ghost view = { λ s. record { written = s.written.items; fails = s.fails.items; writes = s.writes; faults = s.faults } };
+    ghost view = { λ s.
+        record { written = s.written.items; fails = s.fails.items; writes = s.writes; faults = s.faults } };
 }
 
 impl MemSink {
@@ -93,7 +95,8 @@ impl Sink for MemSink {
     fn write(&mut self, bytes: &[u8]) -> Result<(), WriteErr>
         ensures counted { self.old.faults ≤ self.new.faults }
         ensures after { self.new ≡ after_write self.old self.new.written (is_err result) }
-        ensures wrote { AppendsKept (kept_next self.old) self.old.written self.new.written bytes.now result }
+        ensures wrote { AppendsKept (kept_next self.old)
+            self.old.written self.new.written bytes.now result }
     {
         self.writes = self.writes.saturating_add(1);
         let kept = kept(&self.fails, self.writes);
