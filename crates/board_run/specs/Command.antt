@@ -6,20 +6,19 @@ use Rattle.std.specs.Str.{bytes_eq}
 use Rattle.std.specs.Str.Parse.{digits_value}
 use Rattle.board_run.specs.declared.command.Command.{Command}
 use Rattle.board_run.specs.declared.command.Command.TheVariants as command
-use Rattle.board_run.specs.declared.command.TheConstants.{MOST_STEPS}
 
 -- a command with its operands
 pub data Row : Type 0 where
   Hart : (image : List ℕ) (most : ℕ) → Row
 
 -- the number of a word, which is its decimal text (so no sign and no leading zero), where it is at most so much
-abbrev pub number : List ℕ → (most : ℕ) → Option ℕ
+unfoldable pub number : List ℕ → (most : ℕ) → Option ℕ
 number word most =
     let n = digits_value 10 word in if bytes_eq (decimal n) word && nat_le n most then Some n else None
 
--- hart IMAGE N
-abbrev pub hart_row : List (List ℕ) → Option Row
-hart_row (image ∷ steps ∷ []) = option_map (Hart image) (number steps MOST_STEPS)
+-- hart IMAGE N, with N at most a hundred million
+unfoldable pub hart_row : List (List ℕ) → Option Row
+hart_row (image ∷ steps ∷ []) = option_map (Hart image) (number steps 100000000)
 hart_row _ = None
 
 -- the first word names the command, and each command has its own number of words

@@ -1,14 +1,8 @@
 -- Lists in which no two elements are the same, as a test that computes.
-use Rattle.std.specs.Prelude.{ℕ, ◌==◌, Bool, true, not, ◌&&◌, List, [], ◌∷◌}
+use Rattle.std.specs.Prelude.{Bool, true, not, ◌&&◌, List, [], ◌∷◌}
 use Rattle.std.specs.List.{list_any}
-use Rattle.std.specs.Str.{bytes_eq}
 
--- whether the names differ
-abbrev pub all_differ : List (List ℕ) → Bool
-all_differ [] = true
-all_differ (name ∷ names) = not (list_any (bytes_eq name) names) && all_differ names
-
--- whether the numbers differ
-abbrev pub numbers_differ : List ℕ → Bool
-numbers_differ [] = true
-numbers_differ (k ∷ ks) = not (list_any (λ j. k == j) ks) && numbers_differ ks
+-- whether all elements differ, by a test of two of them
+abbrev pub all_differ : {X : Type 0} → (same : X → X → Bool) → List X → Bool
+all_differ same [] = true
+all_differ same (x ∷ xs) = not (list_any (same x) xs) && all_differ same xs

@@ -37,11 +37,11 @@ abbrev pub after_read : FilesInMemory → FilesInMemory
 after_read m = record m { reads = risen m.reads; faults = if fails_next m then risen m.faults else m.faults }
 
 -- each answer of a read with its cause: the read was to fail, or the name isn't held, or its bytes are given, if memory is found
-abbrev pub Answers : (failing : Bool) → (held : Option (List ℕ)) → (max : ℕ) → Result (Vec ℕ) ReadErr → Type 0
-Answers failing held max (Ok bytes) = (failing ≡ false) × IsFrontOf held max bytes.items
-Answers failing held max (Err Failed) = failing ≡ true
-Answers failing held max (Err Missing) = (failing ≡ false) × (held ≡ None)
-Answers failing held max (Err NoMemory) = (failing ≡ false) × IsSome held
+abbrev pub ReadAnswers : (failing : Bool) → (held : Option (List ℕ)) → (max : ℕ) → Result (Vec ℕ) ReadErr → Type 0
+ReadAnswers failing held max (Ok bytes) = (failing ≡ false) × IsFrontOf held max bytes.items
+ReadAnswers failing held max (Err Failed) = failing ≡ true
+ReadAnswers failing held max (Err Missing) = (failing ≡ false) × (held ≡ None)
+ReadAnswers failing held max (Err NoMemory) = (failing ≡ false) × IsSome held
 
 -- a list of files by the bytes of their names, and the names alone
 abbrev pub named : List (String Global × Vec ℕ) → List (List ℕ × List ℕ)

@@ -9,7 +9,7 @@ ghost use Rattle.board_run.specs.Command.{number, hart_row, row_of, row};
 use itoa::Buffer;
 
 /// The most instructions that `hart` may be asked to execute.
-pub const MOST_STEPS: u32 = 100_000_000;
+const MOST_STEPS: u32 = 100_000_000;
 
 /// A command with its operands.
 #[derive(Clone, Copy, Debug, PartialEq, Eq)]
@@ -31,6 +31,7 @@ pub fn command_of(words: &[String]) -> Option<Command<'_>>
     }
 }
 
+#[tactic(auto, unfolding(crate::specs::Command::hart_row))]
 fn hart(operands: &[String]) -> Option<Command<'_>>
     ensures { option_map row result ≡ hart_row (map string_bytes operands.now) }
 {

@@ -5,9 +5,10 @@
 ghost use Rattle.std.specs.Prelude.{◌≡◌, ℕ, ◌+◌, ◌^◌, ◌<◌, ◌≤◌, ◌==◌, List, Option, Some, IfOk, IfSome, IsErrOf, IsTrue};
 ghost use Rattle.std.specs.List.{list_any};
 ghost use Rattle.std.specs.Option.{option_copied};
+ghost use Rattle.std.specs.Str.{bytes_eq};
 ghost use Rattle.board_run.specs.Distinct.{all_differ};
 ghost use Rattle.board_run.specs.Faults.{Rose};
-ghost use Rattle.board_run.specs.Files.{IsFrontOf, IsMissing, held_by, fails_next, after_read, Answers, named, names};
+ghost use Rattle.board_run.specs.Files.{IsFrontOf, IsMissing, held_by, fails_next, after_read, ReadAnswers, named, names};
 
 use std::alloc::Global;
 use std::marker::Model;
@@ -56,14 +57,15 @@ impl Model for MemFiles {
 
     ghost Value = { FilesInMemory };
 
-    ghost view = { λ m. record { files = named m.files.items; fails = m.fails.items; reads = m.reads; faults = m.faults } };
+    ghost view = { λ m.
+        record { files = named m.files.items; fails = m.fails.items; reads = m.reads; faults = m.faults } };
 }
 
 impl MemFiles {
     /// The given bytes under the given names, which differ; the reads whose numbers stand in `fails`
     /// are to fail.
     pub fn new(files: Vec<(String, Vec<u8>)>, fails: Vec<u32>) -> MemFiles
-        requires { IsTrue (all_differ (names files.items)) }
+        requires { IsTrue (all_differ bytes_eq (names files.items)) }
         ensures { result ≡ record { files = named files.items; fails = fails.items; reads = 0; faults = 0 } }
     {
         MemFiles {
@@ -84,7 +86,7 @@ impl Files for MemFiles {
         requires { max < 2 ^ 31 }
         ensures after { self.new ≡ after_read self.old }
         ensures counted { self.old.faults ≤ self.new.faults }
-        ensures answers { Answers (fails_next self.old) (held_by self.old.files name.now) max result }
+        ensures answers { ReadAnswers (fails_next self.old) (held_by self.old.files name.now) max result }
     {
         self.reads = self.reads.saturating_add(1);
         let failing = is_listed(&self.fails, self.reads);
@@ -112,7 +114,7 @@ fn bytes_under<'a>(files: &'a [(String, Vec<u8>)], name: &str) -> Option<&'a [u8
 
 fn answer(alloc: Global, failing: bool, held: Option<&[u8]>, max: u32) -> Result<Vec<u8>, ReadErr>
     requires { max < 2 ^ 31 }
-    ensures { Answers failing (option_copied held.entry) max result }
+    ensures { ReadAnswers failing (option_copied held.entry) max result }
 {
     if failing {
         return Err(ReadErr::Failed);

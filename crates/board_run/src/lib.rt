@@ -14,7 +14,7 @@ mod sink;
 mod status;
 mod still;
 
-pub use command::{Command, MOST_STEPS, command_of};
+pub use command::{Command, command_of};
 pub use files::{Files, MemFiles, ReadErr};
 pub use refusal::{Refusal, Stop};
 pub use sink::{MemSink, Sink, SureSink, WriteErr};

@@ -2,8 +2,8 @@
 //!
 //! A piece is appended whole, or the write fails: then a front of the piece is appended and the count
 //! of faults is higher, a count that never falls.
-ghost use Rattle.std.specs.Prelude.{◌≡◌, ℕ, ◌≤◌, List, [], map, Option, None, Some, IsTrue, is_err};
-ghost use Rattle.board_run.specs.Distinct.{numbers_differ};
+ghost use Rattle.std.specs.Prelude.{◌≡◌, ℕ, ◌≤◌, List, [], map, Option, None, Some, IsTrue, is_err, nat_eq};
+ghost use Rattle.board_run.specs.Distinct.{all_differ};
 ghost use Rattle.board_run.specs.Sink.{Wrote, kept_by, kept_next, AppendsKept, after_write};
 
 use std::alloc::Global;
@@ -27,7 +27,8 @@ pub trait Sink {
     /// appended.
     fn write(&mut self, bytes: &[u8]) -> Result<(), WriteErr>
         ensures counted { faults self.old ≤ faults self.new }
-        ensures wrote { Wrote (faults self.old) (faults self.new) (written self.old) (written self.new) bytes.now result };
+        ensures wrote { Wrote (faults self.old) (faults self.new) (written self.old) (written self.new)
+            bytes.now result };
 }
 
 /// A sink that keeps nothing, tells nothing of what was written and never fails.
@@ -59,14 +60,15 @@ impl Model for MemSink {
 
     ghost Value = { SinkInMemory };
 
-    ghost view = { λ s. record { written = s.written.items; fails = s.fails.items; writes = s.writes; faults = s.faults } };
+    ghost view = { λ s.
+        record { written = s.written.items; fails = s.fails.items; writes = s.writes; faults = s.faults } };
 }
 
 impl MemSink {
     /// Nothing written, and nothing allocated. A pair `(k, j)` says that write k is to fail and keeps
     /// the first j bytes of its piece, or the whole piece where it has fewer; the numbers k differ.
     pub fn new(alloc: Global, fails: Vec<(u32, u32)>) -> MemSink
-        requires { IsTrue (numbers_differ (map (λ fail. fail.0) fails.items)) }
+        requires { IsTrue (all_differ nat_eq (map (λ fail. fail.0) fails.items)) }
         ensures { result ≡ record { written = []; fails = fails.items; writes = 0; faults = 0 } }
     {
         MemSink {
@@ -93,7 +95,8 @@ impl Sink for MemSink {
     fn write(&mut self, bytes: &[u8]) -> Result<(), WriteErr>
         ensures counted { self.old.faults ≤ self.new.faults }
         ensures after { self.new ≡ after_write self.old self.new.written (is_err result) }
-        ensures wrote { AppendsKept (kept_next self.old) self.old.written self.new.written bytes.now result }
+        ensures wrote { AppendsKept (kept_next self.old)
+            self.old.written self.new.written bytes.now result }
     {
         self.writes = self.writes.saturating_add(1);
         let kept = kept(&self.fails, self.writes);
