@@ -24,9 +24,11 @@ pub record Row : Type 0 where
   pub codes : Codes
   pub instruction : ℕ → Instr
 
+-- a row takes the words with its opcode and its codes
 abbrev pub takes : Row → ℕ → Bool
 takes row w = (opcode w == row.opcode) && has_codes row.codes w
 
+-- the rows of each format: its codes, and the fields that it gives
 abbrev pub u_type : ℕ → (ℕ → ℤ → Instr) → Row
 u_type o make = record { opcode = o; codes = Any; instruction = λ w. make (rd w) (u_immediate w) }
 
@@ -45,12 +47,15 @@ b_type o f3 make = record { opcode = o; codes = Funct3 f3; instruction = λ w. m
 abbrev pub r_type : ℕ → ℕ → ℕ → (ℕ → ℕ → ℕ → Instr) → Row
 r_type o f3 f7 make = record { opcode = o; codes = Funct7 f3 f7; instruction = λ w. make (rd w) (rs1 w) (rs2 w) }
 
+-- a shift by a constant, whose amount stands in the place of rs2
 abbrev pub shift_type : ℕ → ℕ → ℕ → (ℕ → ℕ → ℕ → Instr) → Row
 shift_type o f3 f7 make = record { opcode = o; codes = Funct7 f3 f7; instruction = λ w. make (rd w) (rs1 w) (amount w) }
 
+-- a row of one word
 abbrev pub exactly : ℕ → ℕ → Instr → Row
 exactly o word i = record { opcode = o; codes = Word word; instruction = λ _. i }
 
+-- RV32I, then the M extension
 abbrev pub table : List Row
 table =
     u_type 0x37 Lui

@@ -10,6 +10,7 @@ use Rattle.rv_decode.specs.declared.Instr.TheVariants.{Lui, Auipc, Jal, Jalr, Be
 abbrev pub field : ℕ → ℤ → ℕ
 field width z = unsigned_abs (int_rem_euclid z (pos (2 ^ width)))
 
+-- each field at its place
 abbrev pub r_word : ℕ → ℕ → ℕ → ℕ → ℕ → ℕ → ℕ
 r_word o f3 f7 d a b = o + 2 ^ 7 * d + 2 ^ 12 * f3 + 2 ^ 15 * a + 2 ^ 20 * b + 2 ^ 25 * f7
 
@@ -26,6 +27,7 @@ b_word o f3 a b z =
     let n = field 13 z in
     r_word o f3 (bits n 5 6 + 2 ^ 6 * bits n 12 1) (bits n 11 1 + 2 * bits n 1 4) a b
 
+-- the number has twelve zeros where the opcode and rd stand
 abbrev pub u_word : ℕ → ℕ → ℤ → ℕ
 u_word o d z = o + 2 ^ 7 * d + field 32 z
 
@@ -34,6 +36,7 @@ j_word o d z =
     let n = field 21 z in
     o + 2 ^ 7 * d + 2 ^ 12 * bits n 12 8 + 2 ^ 20 * bits n 11 1 + 2 ^ 21 * bits n 1 10 + 2 ^ 31 * bits n 20 1
 
+-- each row's codes with the instruction's fields
 abbrev pub encoded : Instr → ℕ
 encoded (Lui d z) = u_word 0x37 d z
 encoded (Auipc d z) = u_word 0x17 d z

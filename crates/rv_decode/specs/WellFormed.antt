@@ -5,18 +5,21 @@ use Rattle.std.specs.Int.{int_rem_euclid}
 use Rattle.rv_decode.specs.declared.Instr.{Instr}
 use Rattle.rv_decode.specs.declared.Instr.TheVariants.{Lui, Auipc, Jal, Jalr, Beq, Bne, Blt, Bge, Bltu, Bgeu, Lb, Lh, Lw, Lbu, Lhu, Sb, Sh, Sw, Addi, Slti, Sltiu, Xori, Ori, Andi, Slli, Srli, Srai, Add, Sub, Sll, Slt, Sltu, Xor, Srl, Sra, Or, And, Fence, Ecall, Ebreak, Mul, Mulh, Mulhsu, Mulhu, Div, Divu, Rem, Remu}
 
+-- x0 to x31
 abbrev pub IsRegister : ℕ → Type 0
 IsRegister r = r < 32
 
+-- by less than the width of a register
 abbrev pub IsAmount : ℕ → Type 0
 IsAmount n = n < 32
 
--- a signed number of so many bits that a power of two divides
+-- a signed number of so many bits that the step divides
 pub record IsImmediate (width step : ℕ) (z : ℤ) : Type 0 where
   pub low : neg_ℤ (pos (2 ^ (width - 1))) ≤ℤ z
   pub high : z <ℤ pos (2 ^ (width - 1))
   pub divided : int_rem_euclid z (pos step) ≡ pos 0
 
+-- the fields of each format
 abbrev pub FitsR : ℕ → ℕ → ℕ → Type 0
 FitsR d a b = IsRegister d × IsRegister a × IsRegister b
 
@@ -38,6 +41,7 @@ FitsU d z = IsRegister d × IsImmediate 32 4096 z
 abbrev pub FitsJ : ℕ → ℤ → Type 0
 FitsJ d z = IsRegister d × IsImmediate 21 2 z
 
+-- an instruction that has a word
 abbrev pub IsWellFormed : Instr → Type 0
 IsWellFormed (Lui d z) = FitsU d z
 IsWellFormed (Auipc d z) = FitsU d z

@@ -13,7 +13,7 @@ use crate::fields::{
     u_immediate,
 };
 
-/// The instruction of a word, or none where no row of the table takes it.
+/// The instruction of a word, or none where no row of the table takes it: such a word is illegal.
 #[tactic(auto, using(crate::proofs::Rows::formed))]
 pub fn decode(w: u32) -> Option<Instr>
     ensures table { result ≡ decoded w }
@@ -39,12 +39,12 @@ fn instruction(w: u32) -> Option<Instr>
             rd: rd(w),
             imm: j_immediate(w),
         }),
-        0x67 => jump_to_register(w),
+        0x67 => jump_and_link_register(w),
         0x63 => branch(w),
         0x03 => load(w),
         0x23 => store(w),
-        0x13 => with_immediate(w),
-        0x33 => with_registers(w),
+        0x13 => immediate_operation(w),
+        0x33 => register_operation(w),
         0x0F => fence(w),
         0x73 => system(w),
         _ => None,
@@ -53,7 +53,7 @@ fn instruction(w: u32) -> Option<Instr>
 
 #[inline]
 #[tactic(auto, using(crate::proofs::Groups::jalr))]
-fn jump_to_register(w: u32) -> Option<Instr>
+fn jump_and_link_register(w: u32) -> Option<Instr>
     requires { opcode w ≡ 0x67 }
     ensures { result ≡ decoded w }
 {
@@ -122,7 +122,7 @@ fn store(w: u32) -> Option<Instr>
 
 #[inline]
 #[tactic(auto, using(crate::proofs::Groups::immediates))]
-fn with_immediate(w: u32) -> Option<Instr>
+fn immediate_operation(w: u32) -> Option<Instr>
     requires { opcode w ≡ 0x13 }
     ensures { result ≡ decoded w }
 {
@@ -158,21 +158,21 @@ fn shift(w: u32) -> Option<Instr>
 
 #[inline]
 #[tactic(auto, using(crate::proofs::Groups::no_operation))]
-fn with_registers(w: u32) -> Option<Instr>
+fn register_operation(w: u32) -> Option<Instr>
     requires { opcode w ≡ 0x33 }
     ensures { result ≡ decoded w }
 {
     match funct7(w) {
-        0x00 => operation(w),
-        0x01 => multiplication(w),
-        0x20 => other_operation(w),
+        0x00 => base_operation(w),
+        0x01 => multiply_or_divide(w),
+        0x20 => alternate_operation(w),
         _ => None,
     }
 }
 
 #[inline]
 #[tactic(auto, using(crate::proofs::Groups::registers))]
-fn operation(w: u32) -> Option<Instr>
+fn base_operation(w: u32) -> Option<Instr>
     requires code { opcode w ≡ 0x33 }
     requires code7 { funct7 w ≡ 0x00 }
     ensures { result ≡ decoded w }
@@ -193,7 +193,7 @@ fn operation(w: u32) -> Option<Instr>
 
 #[inline]
 #[tactic(auto, using(crate::proofs::Groups::registers))]
-fn other_operation(w: u32) -> Option<Instr>
+fn alternate_operation(w: u32) -> Option<Instr>
     requires code { opcode w ≡ 0x33 }
     requires code7 { funct7 w ≡ 0x20 }
     ensures { result ≡ decoded w }
@@ -208,7 +208,7 @@ fn other_operation(w: u32) -> Option<Instr>
 
 #[inline]
 #[tactic(auto, using(crate::proofs::Groups::registers))]
-fn multiplication(w: u32) -> Option<Instr>
+fn multiply_or_divide(w: u32) -> Option<Instr>
     requires code { opcode w ≡ 0x33 }
     requires code7 { funct7 w ≡ 0x01 }
     ensures { result ≡ decoded w }

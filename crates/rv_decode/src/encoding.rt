@@ -7,7 +7,9 @@ ghost use Rattle.rv_decode.specs.WellFormed.{IsWellFormed, FitsR, FitsI, FitsS, 
 
 use crate::Instr;
 
-/// The word of an instruction: the one that decodes to it.
+/// The word of an instruction: the one word that decodes to it.
+///
+/// Its fields are to be such as its format holds, as those of each decoded instruction are.
 pub fn encode(i: Instr) -> u32
     requires { IsWellFormed i }
     ensures decodes { decoded result ≡ Some i }

@@ -12,6 +12,10 @@ pub use decoding::decode;
 pub use encoding::encode;
 
 /// One instruction, named as the manual names it, with the fields that its format has.
+///
+/// `rd`, `rs1` and `rs2` are register numbers and `amount` a number of bits, each below 32. `imm` is the
+/// immediate after sign extension: a distance in bytes in jumps and branches, and in `Lui` and `Auipc` the
+/// upper twenty bits with twelve zeros below.
 #[derive(Clone, Copy, Debug, PartialEq, Eq)]
 pub enum Instr {
     Lui { rd: u8, imm: i32 },
