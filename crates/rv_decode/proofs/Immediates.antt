@@ -1,12 +1,16 @@
 -- A signed number and the bits of its field: each is got back from the other.
-use Rattle.std.proofs.Common.{ℕ, ℤ, pos, negsuc, neg_ℤ, suc, ◌≡◌, ◌+◌, ◌-◌, ◌*◌, ◌%◌, ◌^◌, ◌<◌, ◌≤◌, ◌≤ℤ◌, ◌<ℤ◌, ◌-ℤ◌, arith, ap, sym, ◌∙◌, refl, ◌+ℤ◌, w32, of_z, to_z, FitsSigned}
+use Rattle.std.proofs.Common.{ℕ, ℤ, pos, negsuc, neg_ℤ, suc, ◌≡◌, ◌+◌, ◌-◌, ◌*◌, ◌/◌, ◌%◌, ◌^◌, ◌<◌, ◌≤◌, ◌≤ℤ◌, ◌<ℤ◌, ◌-ℤ◌, arith, ap, sym, subst, ◌∙◌, refl, ◌+ℤ◌, w32, of_z, to_z, FitsSigned, rules}
 use Rattle.std.specs.Prelude.{unsigned_abs, if◌then◌else◌, nat_lt}
 use Rattle.std.specs.Int.{int_rem_euclid}
-use Rattle.std.proofs.lemmas.Int.{ints, int_rem_euclid_is, to_z-of_z}
-use Rattle.std.proofs.lemmas.Nat.{pow-add, pow_pos, one_shl}
+use Rattle.std.specs.Int.Signed.{shr_z}
+use Rattle.std.proofs.lemmas.Int.{ints, int_rem_euclid_is, to_z-of_z, to_z_pos}
+use Rattle.std.proofs.lemmas.Nat.{div-add-mod', div-mul-add, pow-add, pow_pos, one_shl, shl-shr, shl_whole}
+use Rattle.machine_words.specs.Bits.{bits, signed}
 use Rattle.rv_decode.specs.Encode.{field}
-use Rattle.std.proofs.lemmas.Bool.{lt-ltb, ltb-true, cond_both}
-use Rattle.std.proofs.Math.Nat.{mod-eq_of_lt}
+use Rattle.rv_decode.specs.Fields.{i_immediate, s_immediate, b_immediate, u_immediate, j_immediate}
+use Rattle.rv_decode.specs.WellFormed.{IsImmediate}
+use Rattle.std.proofs.lemmas.Bool.{lt-ltb, ltb-true, ltb-false, cond_both}
+use Rattle.std.proofs.Math.Nat.{mod-eq_of_lt, mul-le-mul_left}
 
 -- two's complement with half of the numbers below h
 abbrev signed_at : ℕ → ℕ → ℤ
@@ -84,3 +88,118 @@ cast-whole r z fits below e =
 pub twelve_zeros : (z : ℤ) → int_rem_euclid z (pos (2 ^ 12)) ≡ pos 0 → field 32 z % 2 ^ 12 ≡ 0
 twelve_zeros (pos a) e = let low : a % 2 ^ 12 ≡ 0 = cc in omega arith
 twelve_zeros (negsuc a) e = let low : 2 ^ 12 - 1 - a % 2 ^ 12 ≡ 0 = cc in omega arith
+
+even_below : (h a : ℕ) → a % 2 ≡ 1 → (2 * h - 1 - a % (2 * h)) % 2 ≡ 0
+even_below h a odd = omega (arith, div-add-mod' a (2 * h))
+
+-- an immediate that 2 divides has an even field
+pub even_field : (h : ℕ) (z : ℤ) → int_rem_euclid z (pos 2) ≡ pos 0 → field_at h z % 2 ≡ 0
+even_field h (pos a) e =
+    let low : a % 2 ≡ 0 = cc in
+    omega (arith, div-add-mod' a (2 * h))
+even_field h (negsuc a) e =
+    let low : 1 - a % 2 ≡ 0 = cc in
+    even_below h a (omega arith)
+
+-- the immediate of a format in any word is in the format's range
+in_range : (h n : ℕ) → n < 2 * h → (neg_ℤ (pos h) ≤ℤ signed_at h n) × (signed_at h n <ℤ pos h)
+in_range h n below =
+    let P : ℤ → Type 0 = λ z. (neg_ℤ (pos h) ≤ℤ z) × (z <ℤ pos h) in
+    cond_both (nat_lt n h) (pos n) (pos n -ℤ pos (2 * h)) P
+    (λ e. let small = ltb-true n h e in (omega (arith, ints), omega (arith, ints)))
+    (λ e. let large = ltb-false n h e in (omega (arith, ints), omega (arith, ints)))
+
+there_and_back : (n m : ℕ) → pos n -ℤ pos m +ℤ pos m ≡ pos n
+there_and_back n m = omega (arith, ints)
+
+-- and a step that divides both the bits and their number divides it
+divided : (h n s q : ℕ) → 0 < s → 2 * h ≡ q * s → n % s ≡ 0 → int_rem_euclid (signed_at h n) (pos s) ≡ pos 0
+divided h n s q positive whole zero =
+    let P : ℤ → Type 0 = λ z. int_rem_euclid z (pos s) ≡ pos 0 in
+    let back : pos n -ℤ pos (2 * h) +ℤ pos (q * s) ≡ pos n = ap (λ m. pos n -ℤ pos (2 * h) +ℤ pos m) (sym whole) ∙ there_and_back n (2 * h) in
+    cond_both (nat_lt n h) (pos n) (pos n -ℤ pos (2 * h)) P
+    (λ _. ap pos zero)
+    (λ _. int_rem_euclid_is (pos n -ℤ pos (2 * h)) (pos s) s q n positive refl back ∙ ap pos zero)
+
+pub i_formed : (w : ℕ) → IsImmediate 12 1 (i_immediate w)
+i_formed w =
+    let n = bits w 20 12 in
+    let range = in_range (2 ^ 11) n (omega arith) in
+    record { low = range.0; high = range.1; divided = divided (2 ^ 11) n 1 (2 ^ 12) (omega arith) refl (omega arith) }
+
+pub s_formed : (w : ℕ) → IsImmediate 12 1 (s_immediate w)
+s_formed w =
+    let n = bits w 25 7 * 2 ^ 5 + bits w 7 5 in
+    let range = in_range (2 ^ 11) n (omega arith) in
+    record { low = range.0; high = range.1; divided = divided (2 ^ 11) n 1 (2 ^ 12) (omega arith) refl (omega arith) }
+
+pub b_formed : (w : ℕ) → IsImmediate 13 2 (b_immediate w)
+b_formed w =
+    let n = bits w 31 1 * 2 ^ 12 + bits w 7 1 * 2 ^ 11 + bits w 25 6 * 2 ^ 5 + bits w 8 4 * 2 in
+    let range = in_range (2 ^ 12) n (omega arith) in
+    record { low = range.0; high = range.1; divided = divided (2 ^ 12) n 2 (2 ^ 12) (omega arith) refl (omega arith) }
+
+pub u_formed : (w : ℕ) → IsImmediate 32 4096 (u_immediate w)
+u_formed w =
+    let n = bits w 12 20 * 2 ^ 12 in
+    let range = in_range (2 ^ 31) n (omega arith) in
+    record { low = range.0; high = range.1; divided = divided (2 ^ 31) n (2 ^ 12) (2 ^ 20) (omega arith) refl (omega arith) }
+
+pub j_formed : (w : ℕ) → IsImmediate 21 2 (j_immediate w)
+j_formed w =
+    let n = bits w 31 1 * 2 ^ 20 + bits w 12 8 * 2 ^ 12 + bits w 20 1 * 2 ^ 11 + bits w 21 10 * 2 in
+    let range = in_range (2 ^ 20) n (omega arith) in
+    record { low = range.0; high = range.1; divided = divided (2 ^ 20) n 2 (2 ^ 20) (omega arith) refl (omega arith) }
+
+to_z-high : (n : ℕ) → 2 ^ 31 ≤ n → n < 2 ^ 32 → to_z w32 n ≡ negsuc (2 ^ 32 - suc n)
+to_z-high n p q =
+    let P : ℤ → Type 0 = λ z. z ≡ negsuc (2 ^ 32 - suc n) in
+    cond_both (nat_lt n (2 ^ 31)) (pos n) (negsuc (2 ^ 32 - suc n)) P
+    (λ e. absurd (omega (arith, ltb-true n (2 ^ 31) e)))
+    (λ _. refl)
+
+-- the quotient of what is left of 2^32
+complement : (h c n : ℕ) → 0 < c → n < 2 * h → h * c ≡ 2 ^ 31 → (2 ^ 32 - suc (n * c)) / c ≡ 2 * h - 1 - n
+complement h c n positive below whole =
+    let m = 2 * h - 1 - n in
+    let count : m + n + 1 ≡ 2 * h = omega arith in
+    let all : (m + n + 1) * c ≡ 2 ^ 32 = ap (λ x. x * c) count ∙ omega (arith, whole) in
+    let split : 2 ^ 32 - suc (n * c) ≡ m * c + (c - 1) = omega (arith, all) in
+    ap (λ x. x / c) split ∙ div-mul-add m c (c - 1) (omega arith)
+
+up-to : (n m : ℕ) → n < m → n + 1 ≤ m
+up-to n m p = omega arith
+
+-- a number at the top of a word, read as signed and shifted down
+shifted : (h k n : ℕ) → n < 2 * h → h * 2 ^ k ≡ 2 ^ 31 → shr_z (to_z w32 (n * 2 ^ k)) (2 ^ k) ≡ signed_at h n
+shifted h k n below whole =
+    let P : ℤ → Type 0 = λ z. shr_z (to_z w32 (n * 2 ^ k)) (2 ^ k) ≡ z in
+    cond_both (nat_lt n h) (pos n) (pos n -ℤ pos (2 * h)) P
+    (λ e.
+    let small : n * 2 ^ k < 2 ^ 31 = subst (λ m. n * 2 ^ k < m) whole (omega (arith, mul-le-mul_left (2 ^ k) (up-to n h (ltb-true n h e)), pow_pos k)) in
+    ap (λ z. shr_z z (2 ^ k)) (to_z_pos w32 (n * 2 ^ k) small) ∙ ap pos (shl-shr n k))
+    (λ e.
+    let large : 2 ^ 31 ≤ n * 2 ^ k = subst (λ m. m ≤ n * 2 ^ k) whole (omega (arith, mul-le-mul_left (2 ^ k) (ltb-false n h e))) in
+    let fits : n * 2 ^ k < 2 ^ 32 = omega (arith, mul-le-mul_left (2 ^ k) (up-to n (2 * h) below), pow_pos k, whole) in
+    ap (λ z. shr_z z (2 ^ k)) (to_z-high (n * 2 ^ k) large fits)
+    ∙ ap negsuc (complement h (2 ^ k) n (pow_pos k) below whole)
+    ∙ sym (high_half h n below))
+
+next : (k : ℕ) → 0 < k → k ≡ 1 + (k - 1)
+next k p = omega arith
+
+-- the two shifts of the code are sign extension
+pub extended : (n width : ℕ) (z : ℤ) → 0 < width → width ≤ 32 → n < 2 ^ width → FitsSigned w32 z → z ≡ to_z w32 (n * 2 ^ (32 - width) % 2 ^ 32) → to_z w32 (of_z w32 (shr_z (to_z w32 (of_z w32 z)) (2 ^ (32 - width)))) ≡ signed width n
+extended n width z positive narrow below fits e =
+    let spare = 32 - width in
+    let h = 2 ^ (width - 1) in
+    let double : 2 ^ width ≡ 2 * h = ap (λ k. 2 ^ k) (next width positive) ∙ pow-add 2 1 (width - 1) in
+    let sum : width - 1 + spare ≡ 31 = omega arith in
+    let whole : h * 2 ^ spare ≡ 2 ^ 31 = sym (pow-add 2 (width - 1) spare) ∙ ap (λ k. 2 ^ k) sum in
+    let at_top : z ≡ to_z w32 (n * 2 ^ spare) = e ∙ ap (to_z w32) (shl_whole n width spare 32 below (omega arith)) in
+    let stays : FitsSigned w32 (shr_z z (2 ^ spare)) = search rules in
+    ap (λ x. to_z w32 (of_z w32 (shr_z x (2 ^ spare)))) (to_z-of_z w32 z fits)
+    ∙ to_z-of_z w32 (shr_z z (2 ^ spare)) stays
+    ∙ ap (λ x. shr_z x (2 ^ spare)) at_top
+    ∙ shifted h spare n (subst (λ m. n < m) double below) whole
+    ∙ ap (λ m. if nat_lt n h then pos n else pos n -ℤ pos m) (sym double)

@@ -1,4 +1,5 @@
 pub mod Formats
+pub mod Groups
 pub mod Immediates
 pub mod Rows
 pub mod Table

@@ -1,34 +1,257 @@
-//! From a word to its instruction.
+//! From a word to its instruction: a match on the opcode, then one on the function codes.
+//!
+//! Each function reads the fields of its opcode's format once; no table is searched.
 
-ghost use Rattle.std.specs.Prelude.{◌≡◌, IfSome};
+ghost use Rattle.std.specs.Prelude.{◌≡◌, ◌⊎◌, IfSome};
 ghost use Rattle.rv_decode.specs.Decode.{decoded};
+ghost use Rattle.rv_decode.specs.Fields.{opcode, funct3, funct7};
 ghost use Rattle.rv_decode.specs.WellFormed.{IsWellFormed};
 
 use crate::Instr;
+use crate::fields::{
+    b_immediate, funct3, funct7, i_immediate, j_immediate, opcode, rd, rs1, rs2, s_immediate,
+    u_immediate,
+};
 
-/// The instruction of a word, or none where no row of the table takes it.
-#[tactic(auto, unfolding(crate::specs::Decode::decoded))]
+/// The instruction of a word, or none where no row of the table takes it: such a word is illegal.
+#[tactic(auto, using(crate::proofs::Rows::formed))]
 pub fn decode(w: u32) -> Option<Instr>
     ensures table { result ≡ decoded w }
     ensures formed { IfSome result IsWellFormed }
 {
-    let opcode = w & 0x7F;
-    let rd = (w >> 7 & 0x1F) as u8;
-    let funct3 = w >> 12 & 7;
-    let rs1 = (w >> 15 & 0x1F) as u8;
-    let rs2 = (w >> 20 & 0x1F) as u8;
-    match opcode {
+    instruction(w)
+}
+
+#[tactic(auto, using(crate::proofs::Groups::lui, crate::proofs::Groups::auipc, crate::proofs::Groups::jal, crate::proofs::Groups::unknown))]
+fn instruction(w: u32) -> Option<Instr>
+    ensures { result ≡ decoded w }
+{
+    match opcode(w) {
         0x37 => Some(Instr::Lui {
-            rd,
-            imm: (w & 0xFFFF_F000).cast_signed(),
+            rd: rd(w),
+            imm: u_immediate(w),
         }),
-        0x13 if funct3 == 0 => Some(Instr::Addi {
-            rd,
-            rs1,
-            imm: w.cast_signed() >> 20,
+        0x17 => Some(Instr::Auipc {
+            rd: rd(w),
+            imm: u_immediate(w),
         }),
-        0x33 if funct3 == 0 && w >> 25 == 0 => Some(Instr::Add { rd, rs1, rs2 }),
-        0x73 if w == 0x73 => Some(Instr::Ecall),
+        0x6F => Some(Instr::Jal {
+            rd: rd(w),
+            imm: j_immediate(w),
+        }),
+        0x67 => jump_and_link_register(w),
+        0x63 => branch(w),
+        0x03 => load(w),
+        0x23 => store(w),
+        0x13 => immediate_operation(w),
+        0x33 => register_operation(w),
+        0x0F => fence(w),
+        0x73 => system(w),
+        _ => None,
+    }
+}
+
+#[inline]
+#[tactic(auto, using(crate::proofs::Groups::jalr))]
+fn jump_and_link_register(w: u32) -> Option<Instr>
+    requires { opcode w ≡ 0x67 }
+    ensures { result ≡ decoded w }
+{
+    match funct3(w) {
+        0 => Some(Instr::Jalr {
+            rd: rd(w),
+            rs1: rs1(w),
+            imm: i_immediate(w),
+        }),
+        _ => None,
+    }
+}
+
+#[inline]
+#[tactic(auto, using(crate::proofs::Groups::branches))]
+fn branch(w: u32) -> Option<Instr>
+    requires { opcode w ≡ 0x63 }
+    ensures { result ≡ decoded w }
+{
+    let (rs1, rs2) = (rs1(w), rs2(w));
+    let imm = b_immediate(w);
+    match funct3(w) {
+        0 => Some(Instr::Beq { rs1, rs2, imm }),
+        1 => Some(Instr::Bne { rs1, rs2, imm }),
+        4 => Some(Instr::Blt { rs1, rs2, imm }),
+        5 => Some(Instr::Bge { rs1, rs2, imm }),
+        6 => Some(Instr::Bltu { rs1, rs2, imm }),
+        7 => Some(Instr::Bgeu { rs1, rs2, imm }),
+        _ => None,
+    }
+}
+
+#[inline]
+#[tactic(auto, using(crate::proofs::Groups::loads))]
+fn load(w: u32) -> Option<Instr>
+    requires { opcode w ≡ 0x03 }
+    ensures { result ≡ decoded w }
+{
+    let (rd, rs1) = (rd(w), rs1(w));
+    let imm = i_immediate(w);
+    match funct3(w) {
+        0 => Some(Instr::Lb { rd, rs1, imm }),
+        1 => Some(Instr::Lh { rd, rs1, imm }),
+        2 => Some(Instr::Lw { rd, rs1, imm }),
+        4 => Some(Instr::Lbu { rd, rs1, imm }),
+        5 => Some(Instr::Lhu { rd, rs1, imm }),
+        _ => None,
+    }
+}
+
+#[inline]
+#[tactic(auto, using(crate::proofs::Groups::stores))]
+fn store(w: u32) -> Option<Instr>
+    requires { opcode w ≡ 0x23 }
+    ensures { result ≡ decoded w }
+{
+    let (rs1, rs2) = (rs1(w), rs2(w));
+    let imm = s_immediate(w);
+    match funct3(w) {
+        0 => Some(Instr::Sb { rs1, rs2, imm }),
+        1 => Some(Instr::Sh { rs1, rs2, imm }),
+        2 => Some(Instr::Sw { rs1, rs2, imm }),
+        _ => None,
+    }
+}
+
+#[inline]
+#[tactic(auto, using(crate::proofs::Groups::immediates))]
+fn immediate_operation(w: u32) -> Option<Instr>
+    requires { opcode w ≡ 0x13 }
+    ensures { result ≡ decoded w }
+{
+    let (rd, rs1) = (rd(w), rs1(w));
+    let imm = i_immediate(w);
+    match funct3(w) {
+        0 => Some(Instr::Addi { rd, rs1, imm }),
+        2 => Some(Instr::Slti { rd, rs1, imm }),
+        3 => Some(Instr::Sltiu { rd, rs1, imm }),
+        4 => Some(Instr::Xori { rd, rs1, imm }),
+        6 => Some(Instr::Ori { rd, rs1, imm }),
+        7 => Some(Instr::Andi { rd, rs1, imm }),
+        _ => shift(w),
+    }
+}
+
+#[inline]
+#[tactic(auto, using(crate::proofs::Groups::immediates))]
+fn shift(w: u32) -> Option<Instr>
+    requires code { opcode w ≡ 0x13 }
+    requires shifts { (funct3 w ≡ 1) ⊎ (funct3 w ≡ 5) }
+    ensures { result ≡ decoded w }
+{
+    let (rd, rs1) = (rd(w), rs1(w));
+    let amount = rs2(w);
+    match (funct7(w), funct3(w)) {
+        (0x00, 1) => Some(Instr::Slli { rd, rs1, amount }),
+        (0x00, 5) => Some(Instr::Srli { rd, rs1, amount }),
+        (0x20, 5) => Some(Instr::Srai { rd, rs1, amount }),
+        _ => None,
+    }
+}
+
+#[inline]
+#[tactic(auto, using(crate::proofs::Groups::no_operation))]
+fn register_operation(w: u32) -> Option<Instr>
+    requires { opcode w ≡ 0x33 }
+    ensures { result ≡ decoded w }
+{
+    match funct7(w) {
+        0x00 => base_operation(w),
+        0x01 => multiply_or_divide(w),
+        0x20 => alternate_operation(w),
+        _ => None,
+    }
+}
+
+#[inline]
+#[tactic(auto, using(crate::proofs::Groups::registers))]
+fn base_operation(w: u32) -> Option<Instr>
+    requires code { opcode w ≡ 0x33 }
+    requires code7 { funct7 w ≡ 0x00 }
+    ensures { result ≡ decoded w }
+{
+    let (rd, rs1, rs2) = (rd(w), rs1(w), rs2(w));
+    Some(match funct3(w) {
+        0 => Instr::Add { rd, rs1, rs2 },
+        1 => Instr::Sll { rd, rs1, rs2 },
+        2 => Instr::Slt { rd, rs1, rs2 },
+        3 => Instr::Sltu { rd, rs1, rs2 },
+        4 => Instr::Xor { rd, rs1, rs2 },
+        5 => Instr::Srl { rd, rs1, rs2 },
+        6 => Instr::Or { rd, rs1, rs2 },
+        7 => Instr::And { rd, rs1, rs2 },
+        _ => unreachable!(),
+    })
+}
+
+#[inline]
+#[tactic(auto, using(crate::proofs::Groups::registers))]
+fn alternate_operation(w: u32) -> Option<Instr>
+    requires code { opcode w ≡ 0x33 }
+    requires code7 { funct7 w ≡ 0x20 }
+    ensures { result ≡ decoded w }
+{
+    let (rd, rs1, rs2) = (rd(w), rs1(w), rs2(w));
+    match funct3(w) {
+        0 => Some(Instr::Sub { rd, rs1, rs2 }),
+        5 => Some(Instr::Sra { rd, rs1, rs2 }),
+        _ => None,
+    }
+}
+
+#[inline]
+#[tactic(auto, using(crate::proofs::Groups::registers))]
+fn multiply_or_divide(w: u32) -> Option<Instr>
+    requires code { opcode w ≡ 0x33 }
+    requires code7 { funct7 w ≡ 0x01 }
+    ensures { result ≡ decoded w }
+{
+    let (rd, rs1, rs2) = (rd(w), rs1(w), rs2(w));
+    Some(match funct3(w) {
+        0 => Instr::Mul { rd, rs1, rs2 },
+        1 => Instr::Mulh { rd, rs1, rs2 },
+        2 => Instr::Mulhsu { rd, rs1, rs2 },
+        3 => Instr::Mulhu { rd, rs1, rs2 },
+        4 => Instr::Div { rd, rs1, rs2 },
+        5 => Instr::Divu { rd, rs1, rs2 },
+        6 => Instr::Rem { rd, rs1, rs2 },
+        7 => Instr::Remu { rd, rs1, rs2 },
+        _ => unreachable!(),
+    })
+}
+
+#[inline]
+#[tactic(auto, using(crate::proofs::Groups::fences))]
+fn fence(w: u32) -> Option<Instr>
+    requires { opcode w ≡ 0x0F }
+    ensures { result ≡ decoded w }
+{
+    match funct3(w) {
+        0 => Some(Instr::Fence {
+            rd: rd(w),
+            rs1: rs1(w),
+            imm: i_immediate(w),
+        }),
+        _ => None,
+    }
+}
+
+#[inline]
+#[tactic(auto, using(crate::proofs::Groups::systems))]
+fn system(w: u32) -> Option<Instr>
+    requires { opcode w ≡ 0x73 }
+    ensures { result ≡ decoded w }
+{
+    match w {
+        0x0000_0073 => Some(Instr::Ecall),
+        0x0010_0073 => Some(Instr::Ebreak),
         _ => None,
     }
 }

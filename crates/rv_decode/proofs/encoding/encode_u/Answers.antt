@@ -11,4 +11,4 @@ returns c =
     let whole : c.cast_unsigned.result ≡ field 32 z = cast-whole c.cast_unsigned.result z c.ranges.imm c.cast_unsigned.type_inv c.cast_unsigned.ensures in
     ap (λ d. bit_or (bit_or c.args.opcode (d * 128 % 2 ^ 32)) c.cast_unsigned.result) c.from.ensures
     ∙ ap (bit_or (bit_or c.args.opcode (c.args.rd * 128 % 2 ^ 32))) whole
-    ∙ or-u_word c.args.opcode c.args.rd (field 32 z) c.requires.code c.requires.register (twelve_zeros z c.requires.immediate.divided)
+    ∙ or-u_word c.args.opcode c.args.rd (field 32 z) c.requires.code c.requires.fits.0 (twelve_zeros z c.requires.fits.1.divided)
