@@ -1,3 +1,4 @@
+pub mod Arithmetic
 pub mod Cause
 pub mod Execute
 pub mod Hart

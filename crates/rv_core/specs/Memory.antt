@@ -1,7 +1,43 @@
--- Memory as the byte at each address.
-use Rattle.std.specs.Prelude.{ℕ, ◌+◌}
-use Rattle.machine_words.specs.Word.{word}
+-- Memory as a hart sees it: the byte at each address, and the ranges that it may use.
+use Rattle.std.specs.Prelude.{◌≡◌, ◌⊎◌, ℕ, zero, suc, ◌+◌, ◌*◌, ◌/◌, ◌%◌, ◌^◌, ◌-◌, ◌==◌, ◌&&◌, nat_le, nat_lt, Bool, if◌then◌else◌, Result, Ok, Err}
+use Rattle.rv_core.specs.declared.bus.Cause.{Cause}
+use Rattle.rv_core.specs.declared.bus.Cause.TheVariants.{FetchOutside, LoadMisaligned, LoadOutside, StoreMisaligned, StoreOutside}
 
--- the word in the four bytes from an address on
-abbrev pub memory_word : (ℕ → ℕ) → ℕ → ℕ
-memory_word byte a = word (byte a) (byte (a + 1)) (byte (a + 2)) (byte (a + 3))
+-- whether the n bytes from an address on may be fetched, loaded or stored
+pub record Memory : Type 0 where
+  pub byte : ℕ → ℕ
+  pub fetches : ℕ → ℕ → Bool
+  pub loads : ℕ → ℕ → Bool
+  pub stores : ℕ → ℕ → Bool
+
+-- the number in the n bytes from an address on, the lowest first
+abbrev pub number_at : (ℕ → ℕ) → ℕ → ℕ → ℕ
+number_at byte zero a = 0
+number_at byte (suc n) a = byte a + 256 * number_at byte n (a + 1)
+
+-- the bytes after the low n bytes of a value were put at an address, the lowest first
+abbrev pub with_number : (ℕ → ℕ) → (a n value : ℕ) → ℕ → ℕ
+with_number byte a n value x =
+    if nat_le a x && nat_lt x (a + n) then value / 256 ^ (x - a) % 256 else byte x
+
+-- what a fetch, a load and a store answer: misaligned comes before outside
+abbrev pub fetch_answer : Memory → ℕ → Result ℕ Cause
+fetch_answer m a = if m.fetches a 4 then Ok (number_at m.byte 4 a) else Err FetchOutside
+
+abbrev pub load_answer : Memory → (a n : ℕ) → Result ℕ Cause
+load_answer m a n =
+    if a % n == 0 then (if m.loads a n then Ok (number_at m.byte n a) else Err LoadOutside) else Err LoadMisaligned
+
+abbrev pub store_answer : Memory → (a n : ℕ) → Result (Unit {0}) Cause
+store_answer m a n = if a % n == 0 then (if m.stores a n then Ok tt else Err StoreOutside) else Err StoreMisaligned
+
+-- the low n bytes of a value were put at an address, no other byte changed, and what may be used didn't
+pub record IsStored (old new : Memory) (a n value : ℕ) : Type 0 where
+  pub bytes : (x : ℕ) → new.byte x ≡ with_number old.byte a n value x
+  pub fetches : (x k : ℕ) → new.fetches x k ≡ old.fetches x k
+  pub loads : (x k : ℕ) → new.loads x k ≡ old.loads x k
+  pub stores : (x k : ℕ) → new.stores x k ≡ old.stores x k
+
+-- how many bytes a load or a store may have
+abbrev pub IsWidth : ℕ → Type 0
+IsWidth n = (n ≡ 1) ⊎ ((n ≡ 2) ⊎ (n ≡ 4))

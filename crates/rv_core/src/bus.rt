@@ -1,7 +1,7 @@
 //! What a hart reaches memory through.
-ghost use Rattle.std.specs.Prelude.{◌≡◌, ◌%◌, ℕ, Bool, if◌then◌else◌, Ok, Err};
+ghost use Rattle.std.specs.Prelude.{◌≡◌, ◌%◌, ℕ, true, if◌then◌else◌, is_ok};
 ghost use Rattle.rv_core.specs.Cause.{cause_number};
-ghost use Rattle.rv_core.specs.Memory.{memory_word};
+ghost use Rattle.rv_core.specs.Memory.{Memory, fetch_answer, load_answer, store_answer, IsStored, IsWidth};
 
 /// Why an instruction can't be executed.
 #[derive(Clone, Copy, Debug, PartialEq, Eq)]
@@ -27,15 +27,30 @@ impl Cause {
 
 /// Memory as a hart sees it: bytes by address, and the ranges that it may use.
 pub trait Bus {
-    /// The byte at each address.
-    ghost byte: { Self → ℕ → ℕ };
+    /// The byte at each address, and which ranges may be fetched, loaded and stored.
+    ghost memory: { Self → Memory };
 
-    /// Whether the four bytes from an address on may be fetched.
-    ghost lets_fetch: { Self → ℕ → Bool };
+    /// The bus after the low n bytes of a value were put at an address.
+    ghost after_store: { Self → (a n value : ℕ) → Self };
 
-    /// The word at an address that 4 divides, little-endian; `FetchOutside` where its bytes may not
-    /// be fetched.
+    /// The word at an address that 4 divides, the lowest byte first. `FetchOutside` where its bytes may
+    /// not be fetched.
     fn fetch(&self, a: u32) -> Result<u32, Cause>
         requires { a % 4 ≡ 0 }
-        ensures fetched { result ≡ (if lets_fetch self.now a then Ok (memory_word (byte self.now) a) else Err Cause.FetchOutside) };
+        ensures { result ≡ fetch_answer (memory self.now) a };
+
+    /// The number in the n bytes from an address on, the lowest first. `LoadMisaligned` where n doesn't
+    /// divide the address, then `LoadOutside` where the bytes may not be loaded.
+    fn load(&self, a: u32, n: u32) -> Result<u32, Cause>
+        requires { IsWidth n }
+        ensures { result ≡ load_answer (memory self.now) a n };
+
+    /// Puts the low n bytes of a value at an address, the lowest first. `StoreMisaligned` where n doesn't
+    /// divide the address, then `StoreOutside` where the bytes may not be stored; nothing changes then.
+    fn store(&mut self, a: u32, n: u32, value: u32) -> Result<(), Cause>
+        requires { IsWidth n }
+        ensures answer { result ≡ store_answer (memory self.old) a n }
+        ensures after { self.new ≡ (if is_ok result then after_store self.old a n value else self.old) };
+
+    ghost stores: { (bus : Self) (a n value : ℕ) → (memory bus).stores a n ≡ true → IsStored (memory bus) (memory (after_store bus a n value)) a n value };
 }
