@@ -1,5 +1,6 @@
 -- Memory as a hart sees it: the byte at each address, and the ranges that it may use.
-use Rattle.std.specs.Prelude.{◌≡◌, ◌⊎◌, ℕ, zero, suc, ◌+◌, ◌*◌, ◌/◌, ◌%◌, ◌^◌, ◌-◌, ◌==◌, ◌&&◌, nat_le, nat_lt, Bool, if◌then◌else◌, Result, Ok, Err}
+use Rattle.std.specs.Prelude.{◌≡◌, ℕ, ◌+◌, ◌/◌, ◌%◌, ◌^◌, ◌-◌, ◌==◌, ◌&&◌, nat_le, nat_lt, Bool, if◌then◌else◌, Result, Ok, Err}
+use Rattle.machine_words.specs.Number.{number_from}
 use Rattle.rv_core.specs.declared.bus.Cause.{Cause}
 use Rattle.rv_core.specs.declared.bus.Cause.TheVariants.{FetchOutside, LoadMisaligned, LoadOutside, StoreMisaligned, StoreOutside}
 
@@ -10,11 +11,6 @@ pub record Memory : Type 0 where
   pub loads : ℕ → ℕ → Bool
   pub stores : ℕ → ℕ → Bool
 
--- the number in the n bytes from an address on, the lowest first
-abbrev pub number_at : (ℕ → ℕ) → ℕ → ℕ → ℕ
-number_at byte zero a = 0
-number_at byte (suc n) a = byte a + 256 * number_at byte n (a + 1)
-
 -- the bytes after the low n bytes of a value were put at an address, the lowest first
 abbrev pub with_number : (ℕ → ℕ) → (a n value : ℕ) → ℕ → ℕ
 with_number byte a n value x =
@@ -22,11 +18,11 @@ with_number byte a n value x =
 
 -- what a fetch, a load and a store answer: misaligned comes before outside
 abbrev pub fetch_answer : Memory → ℕ → Result ℕ Cause
-fetch_answer m a = if m.fetches a 4 then Ok (number_at m.byte 4 a) else Err FetchOutside
+fetch_answer m a = if m.fetches a 4 then Ok (number_from m.byte a 4) else Err FetchOutside
 
 abbrev pub load_answer : Memory → (a n : ℕ) → Result ℕ Cause
 load_answer m a n =
-    if a % n == 0 then (if m.loads a n then Ok (number_at m.byte n a) else Err LoadOutside) else Err LoadMisaligned
+    if a % n == 0 then (if m.loads a n then Ok (number_from m.byte a n) else Err LoadOutside) else Err LoadMisaligned
 
 abbrev pub store_answer : Memory → (a n : ℕ) → Result (Unit {0}) Cause
 store_answer m a n = if a % n == 0 then (if m.stores a n then Ok tt else Err StoreOutside) else Err StoreMisaligned
@@ -37,7 +33,3 @@ pub record IsStored (old new : Memory) (a n value : ℕ) : Type 0 where
   pub fetches : (x k : ℕ) → new.fetches x k ≡ old.fetches x k
   pub loads : (x k : ℕ) → new.loads x k ≡ old.loads x k
   pub stores : (x k : ℕ) → new.stores x k ≡ old.stores x k
-
--- how many bytes a load or a store may have
-abbrev pub IsWidth : ℕ → Type 0
-IsWidth n = (n ≡ 1) ⊎ ((n ≡ 2) ⊎ (n ≡ 4))

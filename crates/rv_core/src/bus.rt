@@ -1,7 +1,8 @@
 //! What a hart reaches memory through.
 ghost use Rattle.std.specs.Prelude.{◌≡◌, ◌%◌, ℕ, true, if◌then◌else◌, is_ok};
+ghost use Rattle.machine_words.specs.Number.{IsWidth};
 ghost use Rattle.rv_core.specs.Cause.{cause_number};
-ghost use Rattle.rv_core.specs.Memory.{Memory, fetch_answer, load_answer, store_answer, IsStored, IsWidth};
+ghost use Rattle.rv_core.specs.Memory.{Memory, fetch_answer, load_answer, store_answer, IsStored};
 
 /// Why an instruction can't be executed.
 #[derive(Clone, Copy, Debug, PartialEq, Eq)]

@@ -4,7 +4,7 @@ ghost use Rattle.machine_words.specs.Bits.{signed, word_of};
 ghost use Rattle.rv_decode.specs.WellFormed.{IsWellFormed};
 ghost use Rattle.rv_core.specs.Execute.{executed, effect, writes, jumps, goes_to, branches, loads_signed, loads_unsigned, stores, sign_extended, hart_after, bus_after, out_of};
 ghost use Rattle.rv_core.specs.Hart.{with_register, advanced};
-ghost use Rattle.rv_core.specs.Memory.{IsWidth};
+ghost use Rattle.machine_words.specs.Number.{IsWidth};
 
 use crate::arithmetic::{
     difference, high_product_mixed, high_product_signed, high_product_unsigned, less_signed,
