@@ -31,6 +31,9 @@ pub trait Bus {
     /// The byte at each address, and which ranges may be fetched, loaded and stored.
     ghost memory: { Self → Memory };
 
+    /// What holds of every bus of the type.
+    ghost is_sound: { Self → Type 0 };
+
     /// The bus after the low n bytes of a value were put at an address.
     ghost after_store: { Self → (a n value : ℕ) → Self };
 
@@ -38,7 +41,8 @@ pub trait Bus {
     /// not be fetched.
     fn fetch(&self, a: u32) -> Result<u32, Cause>
         requires { a % 4 ≡ 0 }
-        ensures { result ≡ fetch_answer (memory self.now) a };
+        ensures answer { result ≡ fetch_answer (memory self.now) a }
+        ensures sound { is_sound self.now };
 
     /// The number in the n bytes from an address on, the lowest first. `LoadMisaligned` where n doesn't
     /// divide the address, then `LoadOutside` where the bytes may not be loaded.
@@ -53,5 +57,6 @@ pub trait Bus {
         ensures answer { result ≡ store_answer (memory self.old) a n }
         ensures after { self.new ≡ (if is_ok result then after_store self.old a n value else self.old) };
 
-    ghost stores: { (bus : Self) (a n value : ℕ) → (memory bus).stores a n ≡ true → IsStored (memory bus) (memory (after_store bus a n value)) a n value };
+    ghost stores: { (bus : Self) (a n value : ℕ) → is_sound bus → (memory bus).stores a n ≡ true
+        → IsStored (memory bus) (memory (after_store bus a n value)) a n value };
 }

@@ -29,6 +29,7 @@ pub fn step<B: Bus>(hart: &mut Hart, bus: &mut B) -> Out
     ensures out { result ≡ out_of (executed (B.memory bus.old) hart.old) }
     ensures hart { hart.new ≡ hart_after (executed (B.memory bus.old) hart.old) hart.old }
     ensures bus { bus.new ≡ bus_after B.after_store (executed (B.memory bus.old) hart.old) bus.old }
+    ensures sound { B.is_sound bus.old }
 {
     let word = match bus.fetch(hart.pc) {
         Ok(word) => word,

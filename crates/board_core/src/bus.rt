@@ -1,0 +1,55 @@
+//! Guarded memory as the bus of a module's code.
+ghost use Rattle.std.specs.Prelude.{◌≡◌};
+ghost use Rattle.board_core.specs.Bus.{seen};
+ghost use Rattle.region_guard.specs.Memory.{with_number, IsSound};
+
+use region_guard::{Access, Guard};
+use rv_core::{Bus, Cause};
+use tx_types::ModNo;
+
+/// The guard, asked on behalf of one module.
+pub struct GuardBus<'g> {
+    pub guard: &'g mut Guard,
+    pub module: ModNo,
+}
+
+impl Bus for GuardBus<'_> {
+    ghost memory = { λ bus. seen bus.«module» bus.guard.now };
+
+    ghost is_sound = { λ bus. IsSound bus.guard.now };
+
+    ghost after_store = { λ bus a n value. record bus { guard = record bus.guard { now = with_number bus.guard.now a n value } } };
+
+    ghost stores = { ? };
+
+    fn fetch(&self, a: u32) -> Result<u32, Cause> {
+        if self.guard.may(self.module, Access::Fetch, a, 4) {
+            Ok(self.guard.get(self.module, Access::Fetch, a, 4))
+        } else {
+            Err(Cause::FetchOutside)
+        }
+    }
+
+    fn load(&self, a: u32, n: u32) -> Result<u32, Cause> {
+        if a % n != 0 {
+            return Err(Cause::LoadMisaligned);
+        }
+        if self.guard.may(self.module, Access::Load, a, n) {
+            Ok(self.guard.get(self.module, Access::Load, a, n))
+        } else {
+            Err(Cause::LoadOutside)
+        }
+    }
+
+    fn store(&mut self, a: u32, n: u32, value: u32) -> Result<(), Cause> {
+        if a % n != 0 {
+            return Err(Cause::StoreMisaligned);
+        }
+        if self.guard.may(self.module, Access::Store, a, n) {
+            self.guard.put(self.module, a, n, value);
+            Ok(())
+        } else {
+            Err(Cause::StoreOutside)
+        }
+    }
+}

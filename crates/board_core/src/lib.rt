@@ -1,0 +1,6 @@
+//! The board's processor: a hart over guarded memory.
+#![tactic(auto)]
+
+mod bus;
+
+pub use bus::GuardBus;
