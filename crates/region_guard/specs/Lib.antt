@@ -1,0 +1,4 @@
+pub mod Add
+pub mod Lending
+pub mod Memory
+pub mod Region
