@@ -1,7 +1,7 @@
 //! Guarded memory as the bus of a module's code.
 ghost use Rattle.std.specs.Prelude.{◌≡◌};
 ghost use Rattle.board_core.specs.Bus.{seen};
-ghost use Rattle.region_guard.specs.Memory.{with_number, IsSound};
+ghost use Rattle.region_guard.specs.Memory.{with_number};
 
 use region_guard::{Access, Guard};
 use rv_core::{Bus, Cause};
@@ -16,11 +16,7 @@ pub struct GuardBus<'g> {
 impl Bus for GuardBus<'_> {
     ghost memory = { λ bus. seen bus.«module» bus.guard.now };
 
-    ghost is_sound = { λ bus. IsSound bus.guard.now };
-
     ghost after_store = { λ bus a n value. record bus { guard = record bus.guard { now = with_number bus.guard.now a n value } } };
-
-    ghost stores = { ? };
 
     fn fetch(&self, a: u32) -> Result<u32, Cause> {
         if self.guard.may(self.module, Access::Fetch, a, 4) {

@@ -7,7 +7,7 @@ use Rattle.rv_decode.specs.declared.Instr.{Instr}
 use Rattle.rv_decode.specs.declared.Instr.TheVariants.{Lui, Auipc, Jal, Jalr, Beq, Bne, Blt, Bge, Bltu, Bgeu, Lb, Lh, Lw, Lbu, Lhu, Sb, Sh, Sw, Addi, Slti, Sltiu, Xori, Ori, Andi, Slli, Srli, Srai, Add, Sub, Sll, Slt, Sltu, Xor, Srl, Sra, Or, And, Fence, Ecall, Ebreak, Mul, Mulh, Mulhsu, Mulhu, Div, Divu, Rem, Remu}
 use Rattle.rv_core.specs.Arithmetic.{int, flag, sum, difference, shifted_left, shifted_right, shifted_right_signed, less_signed, product_low, high_word, quotient, remainder, quotient_unsigned, remainder_unsigned}
 use Rattle.rv_core.specs.Hart.{HartState, register, with_register, advanced}
-use Rattle.rv_core.specs.Memory.{Memory, fetch_answer, load_answer, store_answer}
+use Rattle.rv_core.specs.Memory.{Memory, IsStored, fetch_answer, load_answer, store_answer}
 use Rattle.rv_core.specs.declared.bus.Cause.{Cause}
 use Rattle.rv_core.specs.declared.bus.Cause.TheVariants.{FetchMisaligned, Illegal, Breakpoint}
 use Rattle.rv_core.specs.declared.execute.Out.{Out}
@@ -144,6 +144,13 @@ bus_after after_store (Completes h) bus = bus
 bus_after after_store (Stores a n value h) bus = after_store bus a n value
 bus_after after_store (Calls h) bus = bus
 bus_after after_store (Faults cause) bus = bus
+
+-- a store puts its bytes, and nothing else changes in memory
+abbrev pub Stored : Effect → (old new : Memory) → Type 0
+Stored (Completes h) old new = Unit {0}
+Stored (Stores a n value h) old new = IsStored old new a n value
+Stored (Calls h) old new = Unit {0}
+Stored (Faults cause) old new = Unit {0}
 
 -- how the step ends
 abbrev pub out_of : Effect → Out

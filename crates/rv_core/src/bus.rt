@@ -1,5 +1,5 @@
 //! What a hart reaches memory through.
-ghost use Rattle.std.specs.Prelude.{◌≡◌, ◌%◌, ℕ, true, if◌then◌else◌, is_ok};
+ghost use Rattle.std.specs.Prelude.{◌≡◌, ◌%◌, ℕ, if◌then◌else◌, is_ok, OnOk};
 ghost use Rattle.machine_words.specs.Number.{IsWidth};
 ghost use Rattle.rv_core.specs.Cause.{cause_number};
 ghost use Rattle.rv_core.specs.Memory.{Memory, fetch_answer, load_answer, store_answer, IsStored};
@@ -31,9 +31,6 @@ pub trait Bus {
     /// The byte at each address, and which ranges may be fetched, loaded and stored.
     ghost memory: { Self → Memory };
 
-    /// What holds of every bus of the type.
-    ghost is_sound: { Self → Type 0 };
-
     /// The bus after the low n bytes of a value were put at an address.
     ghost after_store: { Self → (a n value : ℕ) → Self };
 
@@ -41,8 +38,7 @@ pub trait Bus {
     /// not be fetched.
     fn fetch(&self, a: u32) -> Result<u32, Cause>
         requires { a % 4 ≡ 0 }
-        ensures answer { result ≡ fetch_answer (memory self.now) a }
-        ensures sound { is_sound self.now };
+        ensures { result ≡ fetch_answer (memory self.now) a };
 
     /// The number in the n bytes from an address on, the lowest first. `LoadMisaligned` where n doesn't
     /// divide the address, then `LoadOutside` where the bytes may not be loaded.
@@ -55,8 +51,6 @@ pub trait Bus {
     fn store(&mut self, a: u32, n: u32, value: u32) -> Result<(), Cause>
         requires { IsWidth n }
         ensures answer { result ≡ store_answer (memory self.old) a n }
-        ensures after { self.new ≡ (if is_ok result then after_store self.old a n value else self.old) };
-
-    ghost stores: { (bus : Self) (a n value : ℕ) → is_sound bus → (memory bus).stores a n ≡ true
-        → IsStored (memory bus) (memory (after_store bus a n value)) a n value };
+        ensures after { self.new ≡ (if is_ok result then after_store self.old a n value else self.old) }
+        ensures bytes { OnOk result (IsStored (memory self.old) (memory self.new) a n value) };
 }

@@ -2,7 +2,7 @@
 ghost use Rattle.std.specs.Prelude.{◌≡◌, ◌*◌, ◌/◌, ◌%◌, ◌^◌, ◌<◌, pos, ◌+ℤ◌};
 ghost use Rattle.machine_words.specs.Bits.{signed, word_of};
 ghost use Rattle.rv_decode.specs.WellFormed.{IsWellFormed};
-ghost use Rattle.rv_core.specs.Execute.{executed, effect, writes, jumps, goes_to, branches, loads_signed, loads_unsigned, stores, sign_extended, hart_after, bus_after, out_of};
+ghost use Rattle.rv_core.specs.Execute.{executed, effect, writes, jumps, goes_to, branches, loads_signed, loads_unsigned, stores, sign_extended, hart_after, bus_after, Stored, out_of};
 ghost use Rattle.rv_core.specs.Hart.{with_register, advanced};
 ghost use Rattle.machine_words.specs.Number.{IsWidth};
 
@@ -29,7 +29,7 @@ pub fn step<B: Bus>(hart: &mut Hart, bus: &mut B) -> Out
     ensures out { result ≡ out_of (executed (B.memory bus.old) hart.old) }
     ensures hart { hart.new ≡ hart_after (executed (B.memory bus.old) hart.old) hart.old }
     ensures bus { bus.new ≡ bus_after B.after_store (executed (B.memory bus.old) hart.old) bus.old }
-    ensures sound { B.is_sound bus.old }
+    ensures bytes { Stored (executed (B.memory bus.old) hart.old) (B.memory bus.old) (B.memory bus.new) }
 {
     let word = match bus.fetch(hart.pc) {
         Ok(word) => word,
@@ -49,6 +49,7 @@ fn execute<B: Bus>(i: Instr, hart: &mut Hart, bus: &mut B) -> Out
     ensures out { result ≡ out_of (effect i (B.memory bus.old) hart.old) }
     ensures hart { hart.new ≡ hart_after (effect i (B.memory bus.old) hart.old) hart.old }
     ensures bus { bus.new ≡ bus_after B.after_store (effect i (B.memory bus.old) hart.old) bus.old }
+    ensures bytes { Stored (effect i (B.memory bus.old) hart.old) (B.memory bus.old) (B.memory bus.new) }
 {
     match i {
         Instr::Lui { rd, imm } => write(hart, rd, imm.cast_unsigned()),
@@ -252,6 +253,7 @@ fn store<B: Bus>(hart: &mut Hart, bus: &mut B, a: u32, n: u32, value: u32) -> Ou
     ensures out { result ≡ out_of (stores (B.memory bus.old) hart.old a n value) }
     ensures hart { hart.new ≡ hart_after (stores (B.memory bus.old) hart.old a n value) hart.old }
     ensures bus { bus.new ≡ bus_after B.after_store (stores (B.memory bus.old) hart.old a n value) bus.old }
+    ensures bytes { Stored (stores (B.memory bus.old) hart.old a n value) (B.memory bus.old) (B.memory bus.new) }
 {
     match bus.store(a, n, value) {
         Ok(()) => next(hart),
