@@ -2,7 +2,7 @@
 use Rattle.std.proofs.Common.{◌≡◌, Option, Some, None, Result, Ok, Err, IfSome, inl, inr, ap, ◌∙◌, sym}
 use Rattle.std.specs.Option.{option_map}
 use Rattle.board_run.specs.Due.{◌>>=◌}
-use Rattle.board_run.specs.Reading.{Gives, Stops}
+use Rattle.board_run.specs.Reading.{Gives, GivesHere, Stops}
 use Rattle.board_run.specs.declared.refusal.Stop.{Stop}
 use Rattle.board_run.specs.declared.refusal.Stop.TheVariants.{ReadFault, Refused, NoMemory}
 
@@ -21,13 +21,17 @@ gives_untold rose (Err ReadFault) = tt
 gives_untold rose (Err (Refused refusal)) = tt
 gives_untold rose (Err NoMemory) = tt
 
-gives_due : {Z : Type 0} (rose : Type 0) (due r : Result Z Stop) → due ≡ r → Gives (λ z. z) (Some due) rose r
-gives_due rose due (Ok z) e = e
-gives_due rose due (Err ReadFault) e = inl e
-gives_due rose due (Err (Refused refusal)) e = e
-gives_due rose due (Err NoMemory) e = tt
+gives_due : {Z : Type 0} (rose : Type 0) (whole due r : Result Z Stop) → whole ≡ due → GivesHere due r → Gives (λ z. z) (Some whole) rose r
+gives_due rose whole due (Ok z) e h = e ∙ h
+gives_due rose whole due (Err ReadFault) e h = elim h [ inl is ↦ inl (e ∙ is) | inr never ↦ absurd never ]
+gives_due rose whole due (Err (Refused refusal)) e h = e ∙ h
+gives_due rose whole due (Err NoMemory) e h = tt
 
 -- where the first gave a value, the second decides
-pub gives_then : {A X Z : Type 0} (first : A → Result X Stop) (next : X → Result Z Stop) (known : Option A) (rose : Type 0) (x : X) (r : Result Z Stop) → IfSome (option_map first known) (λ d. d ≡ Ok x) → r ≡ next x → Gives (λ z. z) (option_map (λ a. first a >>= next) known) rose r
-gives_then first next None rose x r h e = gives_untold rose r
-gives_then first next (Some a) rose x r h e = gives_due rose (first a >>= next) r (ap (λ d. d >>= next) h ∙ sym e)
+pub gives_then : {A X Z : Type 0} (first : A → Result X Stop) (next : X → Result Z Stop) (known : Option A) (rose : Type 0) (x : X) (r : Result Z Stop) → IfSome (option_map first known) (λ d. d ≡ Ok x) → GivesHere (next x) r → Gives (λ z. z) (option_map (λ a. first a >>= next) known) rose r
+gives_then first next None rose x r h g = gives_untold rose r
+gives_then first next (Some a) rose x r h g = gives_due rose (first a >>= next) (next x) r (ap (λ d. d >>= next) h) g
+
+-- a value that is due
+pub gives_one : {X : Type 0} (due : Result X Stop) (x : X) → due ≡ Ok x → GivesHere due (Ok x)
+gives_one due x is = is

@@ -1,8 +1,9 @@
 -- The registers with which the start thread of a module begins, the module lying alone at the start of RAM.
-use Rattle.std.specs.Prelude.{◌≡◌, ℕ, ◌+◌, ◌-◌, ◌*◌, ◌/◌, ◌%◌, ◌≤◌, ◌<◌, replicate, slice_set}
+use Rattle.std.specs.Prelude.{◌≡◌, ℕ, ◌+◌, ◌-◌, ◌*◌, ◌/◌, ◌%◌, ◌≤◌, ◌<◌, true, replicate, slice_set}
+use Rattle.module_preamble.specs.Words.{has_callback}
 use Rattle.module_preamble.specs.declared.words.Preamble.{Preamble}
 use Rattle.rv_core.specs.Hart.{HartState}
-use Rattle.board_run.specs.declared.hart.TheConstants.{RAM_BASE}
+use Rattle.region_guard.specs.declared.TheConstants.{RAM_BASE}
 
 -- the least multiple of a step that isn't below n
 abbrev pub rounded_up : ℕ → ℕ → ℕ
@@ -28,6 +29,9 @@ pub record IsPlaceable (p : Preamble) : Type 0 where
   pub code_size : p.code_size ≤ 1048576
   pub data_size : p.data_size ≤ 1048576
   pub start_stack : p.start_stack ≤ 65536
+  pub callback_stack : has_callback p ≡ true → p.callback_stack ≤ 65536
   pub shell : p.shell < p.code_size
   pub shell_aligned : p.shell % 4 ≡ 0
   pub start : p.start < p.code_size
+  pub some_code : 0 < p.code_size
+  pub some_stack : 0 < p.start_stack

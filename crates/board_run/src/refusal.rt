@@ -7,7 +7,7 @@ ghost use Rattle.board_run.specs.Refusal.{refusal_line, refusal_text, rule_text,
 
 use crate::files::ReadErr;
 use module_preamble::PreErr;
-use tx_types::{Line, put_decimal, put_hex};
+use tx_types::{Line, NoMemory, put_decimal, put_hex};
 
 /// A file that was read and is refused.
 #[derive(Clone, Copy, Debug, PartialEq, Eq)]
@@ -34,6 +34,14 @@ impl From<ReadErr> for Stop {
             ReadErr::Failed | ReadErr::Missing => Stop::ReadFault,
             ReadErr::NoMemory => Stop::NoMemory,
         }
+    }
+}
+
+impl From<NoMemory> for Stop {
+    ghost from_gives = { λ _ stop. stop ≡ Stop.NoMemory };
+
+    fn from(_: NoMemory) -> Stop {
+        Stop::NoMemory
     }
 }
 
