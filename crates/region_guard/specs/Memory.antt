@@ -41,11 +41,15 @@ with_bytes g a others = record g { bytes = over g.bytes (a - RAM_BASE) others }
 abbrev pub with_number : Memory → ℕ → ℕ → ℕ → Memory
 with_number g a n v = with_bytes g a (low_bytes n v)
 
+-- the n addresses from a on are in RAM
+pub record IsRangeInRam (bytes : List ℕ) (a n : ℕ) : Type 0 where
+  pub from_base : RAM_BASE ≤ a
+  pub to_end : a + n ≤ RAM_BASE + length bytes
+
 -- a region has an address, and all of them are in RAM
 pub record IsInRam (bytes : List ℕ) (r : Region) : Type 0 where
   pub not_empty : 0 < r.size
-  pub from_base : RAM_BASE ≤ r.base
-  pub to_end : r.base + r.size ≤ RAM_BASE + length bytes
+  pub range : IsRangeInRam bytes r.base r.size
 
 -- what holds of all guarded memory
 pub record IsSound (g : Memory) : Type 0 where
