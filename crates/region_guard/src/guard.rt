@@ -75,9 +75,11 @@ impl Guard {
     /// access. No address at all may always be used.
     #[inline]
     pub fn may(&self, m: ModNo, access: Access, a: u32, n: u32) -> bool
-        ensures { result ≡ may self.now m access a n }
+        ensures answer { result ≡ may self.now m access a n }
+        ensures sound { IsSound self.now }
     {
-        n == 0 || some_lets(&self.regions, m, access, a, n)
+        let regions = &self.regions;
+        n == 0 || some_lets(regions, m, access, a, n)
     }
 
     /// Whether module m may use the n addresses from a on, and there is at least one.
