@@ -6,6 +6,5 @@ use Rattle.board_run.proofs.hart.run.Given as goal
 -- what is left to run completes the whole run
 abbrev pub invariant-loop-steps : goal.invariant-loop-steps
 invariant-loop-steps g l =
-    let effect = λ b. executed (g.B.Bus.memory b) in
-    let store = g.B.Bus.after_store in
-    after_steps l.steps (ran effect store (l.most - l.steps) l.bus l.hart) ≡ ran effect store l.most l.fn.bus l.fn.hart
+    after_steps l.steps (ran (λ b. executed (g.B.Bus.memory b)) g.B.Bus.after_store (l.most - l.steps) l.bus l.hart)
+    ≡ ran (λ b. executed (g.B.Bus.memory b)) g.B.Bus.after_store l.most l.fn.bus l.fn.hart
