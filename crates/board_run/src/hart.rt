@@ -47,6 +47,7 @@ fn preamble_of(number: u8, image: &[u8]) -> Result<Preamble, Stop>
     requires { length image.now ≤ MOST_IMAGE }
     ensures preamble { result ≡ refused_image number (preamble image.now) }
     ensures placeable { IfOk result IsPlaceable }
+    ensures code { IfOk result (λ p. p.code_size ≡ length image.now) }
 {
     match module_preamble::read(image) {
         Ok(p) => Ok(p),

@@ -3,7 +3,7 @@
 //! A refusal is printed as one line; the other two print nothing.
 ghost use Rattle.std.specs.Prelude.{◌≡◌, ◌+◌, ◌≤◌, ◌++◌};
 ghost use Rattle.arrayvec.specs.ArrayString.{array_string_len};
-ghost use Rattle.board_run.specs.Refusal.{refusal_line, refusal_text, rule_text, stop_of};
+ghost use Rattle.board_run.specs.Refusal.{refusal_line, refusal_text, rule_text, stop_of, want_of_memory};
 
 use crate::files::ReadErr;
 use module_preamble::PreErr;
@@ -38,7 +38,7 @@ impl From<ReadErr> for Stop {
 }
 
 impl From<NoMemory> for Stop {
-    ghost from_gives = { λ _ stop. stop ≡ Stop.NoMemory };
+    ghost from_gives = { λ _ stop. stop ≡ want_of_memory };
 
     fn from(_: NoMemory) -> Stop {
         Stop::NoMemory
