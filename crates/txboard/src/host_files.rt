@@ -101,3 +101,6 @@ fn read_front<F: Read>(alloc: Global, reader: &mut F, most: usize) -> Result<Vec
     }
     Ok(bytes)
 }
+
+#[cfg(test)]
+mod tests;

@@ -67,3 +67,6 @@ fn write_some<W: Write>(out: &mut W, piece: &[u8]) -> Result<usize, WriteErr>
         Ok(count) => Ok(count),
     }
 }
+
+#[cfg(test)]
+mod tests;
