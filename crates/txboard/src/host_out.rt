@@ -2,7 +2,7 @@
 //!
 //! What the host takes is not told; where a writer tells the bytes that it holds, the pieces are appended
 //! to them.
-ghost use Rattle.std.specs.Prelude.{◌≡◌, ◌<◌, ◌≤◌, length, None, IfOk};
+ghost use Rattle.std.specs.Prelude.{◌≡◌, ◌<◌, ◌≤◌, [], length, None, IsOk, IfOk};
 ghost use Rattle.std.specs.Io.KnownBytes.{WriteAppends};
 ghost use Rattle.txboard.specs.HostOut.{AppendsPiece, count_written};
 
@@ -34,6 +34,7 @@ impl<W: Write + Drop> Sink for HostOut<W> {
         ensures counted { self.old.faults ≤ self.new.faults }
         ensures count { self.new.faults ≡ count_written self.old.faults result }
         ensures wrote { AppendsPiece (W.contents self.old.out) (W.contents self.new.out) piece.now result }
+        ensures nothing { piece.now ≡ [] → IsOk result }
     {
         let outcome = write_whole(&mut self.out, piece);
         if outcome.is_err() {
@@ -46,7 +47,8 @@ impl<W: Write + Drop> Sink for HostOut<W> {
 /// Writes a piece whole, or a front of it where a write fails.
 #[tactic(auto, using(crate::proofs::HostOut::pieces))]
 fn write_whole<W: Write>(out: &mut W, piece: &[u8]) -> Result<(), WriteErr>
-    ensures { AppendsPiece (W.contents out.old) (W.contents out.new) piece.now result }
+    ensures wrote { AppendsPiece (W.contents out.old) (W.contents out.new) piece.now result }
+    ensures nothing { piece.now ≡ [] → IsOk result }
 {
     let mut rest = piece;
     while !rest.is_empty() {
