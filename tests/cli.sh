@@ -22,7 +22,7 @@ expect() {
         passed=$((passed + 1))
     else
         failed=$((failed + 1))
-        printf 'FAILED %s: status %s, due is %s; wrote %q, and as an error %q\n' "$name" "$got" "$status" \
+        printf 'FAILED %s: status %s, due is %s; wrote %q, and as an error %q\n' "${name//$'\n'/ }" "$got" "$status" \
             "$(head -c 400 "$work/out")" "$(head -c 200 "$work/err")"
     fi
 }
