@@ -1,13 +1,12 @@
 -- From how a call ended to what it may answer.
-use Rattle.std.proofs.Common.{◌≡◌, ℕ, List, ◌++◌, Option, Some, None, Result, Ok, Err, IfSome, MatchResult, ◌⊎◌, inl, inr, ap, sym, subst, ◌∙◌, refl}
-use Rattle.std.specs.Io.KnownBytes.{Appends, Keeps}
+use Rattle.std.proofs.Common.{◌≡◌, ℕ, List, Option, Some, None, Result, Ok, IfSome, ◌⊎◌, inl, inr, ap, sym, subst, refl}
+use Rattle.std.specs.Io.KnownBytes.{Appends}
 use Rattle.std.specs.Option.{option_map}
 use Rattle.board_run.specs.Answer.{Answers, Completes}
 use Rattle.board_run.specs.Command.{Row, row_of}
 use Rattle.board_run.specs.Due.{Due, due, due_of, row_due, row_text, usage_line, ◌>>=◌}
 use Rattle.board_run.specs.Ending.{Ends, EndsStopped}
 use Rattle.board_run.specs.Reading.{Stops}
-use Rattle.board_run.specs.Sink.{AppendsFront, Wrote}
 use Rattle.board_run.specs.declared.refusal.Stop.{Stop}
 use Rattle.board_run.specs.declared.refusal.Stop.TheVariants.{ReadFault, Refused, NoMemory}
 use Rattle.board_run.specs.declared.status.Status.{Status}

@@ -1,12 +1,11 @@
 -- A file that was read with room for one byte more than it may have.
-use Rattle.std.proofs.Common.{◌≡◌, ℕ, ◌+◌, ◌<◌, ◌≤◌, List, length, take, Option, Some, None, Result, Ok, Err, IfSome, IsSomeAnd, sym, ap, ◌∙◌, arith, cond, ltb}
+use Rattle.std.proofs.Common.{◌≡◌, ℕ, ◌+◌, ◌<◌, ◌≤◌, List, length, take, Option, Some, None, Ok, Err, IfSome, IsSomeAnd, ap, ◌∙◌, arith}
 use Rattle.std.specs.Option.{option_map}
 use Rattle.std.proofs.lemmas.List.{take_all, length-take}
 use Rattle.std.proofs.lemmas.Bool.Decides.{nat_tests}
 use Rattle.board_run.specs.Due.{held_file, within, ◌>>=◌}
 use Rattle.board_run.specs.Files.{IsFrontOf}
 use Rattle.board_run.specs.declared.refusal.Refusal.{Refusal}
-use Rattle.board_run.specs.declared.refusal.Stop.{Stop}
 use Rattle.board_run.specs.declared.refusal.Stop.TheVariants.{Refused}
 
 -- what was read is the file, where it isn't too large

@@ -1,5 +1,5 @@
 -- A run of instructions, one instruction at a time.
-use Rattle.std.proofs.Common.{◌≡◌, ℕ, suc, ◌+◌, ◌-◌, ◌<◌, sym, ap, ◌∙◌, refl, arith, add_assoc}
+use Rattle.std.proofs.Common.{◌≡◌, ℕ, suc, ◌+◌, ◌-◌, ◌<◌, ap, ◌∙◌, refl, arith}
 use Rattle.rv_core.specs.Execute.{Effect, Completes, Calls, Faults, hart_after, out_of}
 use Rattle.rv_core.specs.Hart.{HartState}
 use Rattle.rv_core.specs.declared.bus.Cause.{Cause}

@@ -1,5 +1,5 @@
 -- A helper that goes on after another: what is due is due to the second, or to the first where it stopped.
-use Rattle.std.proofs.Common.{◌≡◌, Option, Some, None, Result, Ok, Err, IfSome, ◌⊎◌, inl, inr, ap, ◌∙◌, sym}
+use Rattle.std.proofs.Common.{◌≡◌, Option, Some, None, Result, Ok, Err, IfSome, inl, inr, ap, ◌∙◌, sym}
 use Rattle.std.specs.Option.{option_map}
 use Rattle.board_run.specs.Due.{◌>>=◌}
 use Rattle.board_run.specs.Reading.{Gives, Stops}

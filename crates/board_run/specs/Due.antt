@@ -1,6 +1,6 @@
 -- What is due for a list of words: a status and the text to be written, by the bytes that the files hold.
 -- Where a step of a call stops, the rest of the call is left out.
-use Rattle.std.specs.Prelude.{ℕ, ◌++◌, nat_lt, if◌then◌else◌, List, [], length, Option, Some, None, Result, Ok, Err, codes}
+use Rattle.std.specs.Prelude.{ℕ, nat_lt, if◌then◌else◌, List, [], length, Option, Some, None, Result, Ok, Err, codes}
 use Rattle.module_preamble.specs.Preamble.{preamble}
 use Rattle.module_preamble.specs.declared.words.Preamble.{Preamble}
 use Rattle.module_preamble.specs.declared.refusal.PreErr.{PreErr}

@@ -1,9 +1,9 @@
 -- The run of one image alone, and its text.
-use Rattle.std.specs.Prelude.{ℕ, zero, suc, ◌+◌, ◌-◌, ◌≤◌, ◌&&◌, ◌==◌, Bool, nat_le, if◌then◌else◌, List, [], ◌∷◌, ◌++◌, length, drop, slice_index, codes, decimal, map}
+use Rattle.std.specs.Prelude.{ℕ, zero, suc, ◌+◌, ◌-◌, ◌&&◌, ◌==◌, Bool, nat_le, if◌then◌else◌, List, ◌++◌, length, drop, slice_index, codes, decimal}
 use Rattle.std.specs.List.{flat_map}
 use Rattle.tx_types.specs.Line.{hex}
 use Rattle.rv_core.specs.Cause.{cause_number}
-use Rattle.rv_core.specs.Execute.{Effect, Completes, Calls, Faults, executed}
+use Rattle.rv_core.specs.Execute.{Effect, Completes, Calls, Faults}
 use Rattle.rv_core.specs.Hart.{HartState}
 use Rattle.rv_core.specs.declared.bus.Cause.TheVariants.{Illegal}
 use Rattle.board_run.specs.declared.hart.End.{End}

@@ -1,4 +1,4 @@
-use Rattle.std.proofs.Common.{◌≡◌, sym, ◌∙◌, rules}
+use Rattle.std.proofs.Common.{◌≡◌, sym, ◌∙◌}
 use Rattle.rv_core.specs.Execute.{executed, out_of, hart_after}
 use Rattle.rv_core.specs.declared.execute.Out.TheVariants.{Done, Fault}
 use Rattle.board_run.proofs.Running.{ran_more, ran_faults}
