@@ -9,3 +9,6 @@ mod hart;
 pub use bus::{Bus, Cause};
 pub use execute::{Out, step};
 pub use hart::Hart;
+
+#[cfg(test)]
+mod tests;
