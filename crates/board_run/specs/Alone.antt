@@ -3,8 +3,7 @@ use Rattle.std.specs.Prelude.{ℕ, ◌+◌, if◌then◌else◌, List, [], ◌�
 use Rattle.flat_ram.specs.Ram.{over}
 use Rattle.module_preamble.specs.Words.{has_callback}
 use Rattle.module_preamble.specs.declared.words.Preamble.{Preamble}
-use Rattle.region_guard.specs.Memory.{Memory}
-use Rattle.region_guard.specs.declared.TheConstants.{RAM_BASE}
+use Rattle.region_guard.specs.Memory.{Memory, ram_base}
 use Rattle.region_guard.specs.declared.region.Region.{Region}
 use Rattle.region_guard.specs.declared.region.Rights.TheVariants.{Code, ReadWrite}
 use Rattle.board_run.specs.Opening.{rounded_up, data_base}
@@ -16,7 +15,7 @@ data_bytes p =
 
 -- its code can be fetched and loaded, and its data loaded and stored
 abbrev pub code_region : Preamble → Region
-code_region p = record { base = RAM_BASE; size = p.code_size; rights = Code; who = 1 }
+code_region p = record { base = ram_base; size = p.code_size; rights = Code; who = 1 }
 
 abbrev pub data_region : Preamble → Region
 data_region p = record { base = data_base p; size = data_bytes p; rights = ReadWrite; who = 1 }

@@ -3,7 +3,7 @@ use Rattle.std.specs.Prelude.{◌≡◌, ℕ, ◌+◌, ◌-◌, ◌*◌, ◌/◌
 use Rattle.module_preamble.specs.Words.{has_callback}
 use Rattle.module_preamble.specs.declared.words.Preamble.{Preamble}
 use Rattle.rv_core.specs.Hart.{HartState}
-use Rattle.region_guard.specs.declared.TheConstants.{RAM_BASE}
+use Rattle.region_guard.specs.Memory.{ram_base}
 
 -- the least multiple of a step that isn't below n
 abbrev pub rounded_up : ℕ → ℕ → ℕ
@@ -11,7 +11,7 @@ rounded_up step n = (n + (step - 1)) / step * step
 
 -- the data region lies behind the code, at a multiple of 32
 abbrev pub data_base : Preamble → ℕ
-data_base p = rounded_up 32 (RAM_BASE + p.code_size)
+data_base p = rounded_up 32 (ram_base + p.code_size)
 
 -- the start stack lies behind the data and grows down from its top
 abbrev pub start_stack_top : Preamble → ℕ
@@ -20,8 +20,8 @@ start_stack_top p = data_base p + rounded_up 16 p.data_size + rounded_up 16 p.st
 -- pc at the shell entry; sp (x2) the top of the start stack, gp (x3) the data base, a0 (x10) the start entry, all else 0
 abbrev pub opening : Preamble → HartState
 opening p = record {
-  pc = RAM_BASE + p.shell;
-  x = slice_set (slice_set (slice_set (replicate 32 0) 2 (start_stack_top p)) 3 (data_base p)) 10 (RAM_BASE + p.start);
+  pc = ram_base + p.shell;
+  x = slice_set (slice_set (slice_set (replicate 32 0) 2 (start_stack_top p)) 3 (data_base p)) 10 (ram_base + p.start);
 }
 
 -- what an accepted image keeps, so that it fits into RAM

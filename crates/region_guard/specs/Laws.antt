@@ -2,9 +2,8 @@
 use Rattle.std.specs.Prelude.{◌≡◌, ◌⊎◌, ℕ, ◌+◌, ◌%◌, ◌^◌, ◌<◌, ◌≤◌, true, List, length, slice_index}
 use Rattle.machine_words.specs.Number.{after_store}
 use Rattle.flat_ram.specs.Laws.{IsOutside}
-use Rattle.region_guard.specs.Memory.{Memory, IsRangeInRam, IsSound, may, byte, number, with_bytes, with_number}
+use Rattle.region_guard.specs.Memory.{Memory, IsRangeInRam, IsSound, may, byte, number, with_bytes, with_number, ram_base}
 use Rattle.region_guard.specs.declared.region.Access.{Access}
-use Rattle.region_guard.specs.declared.TheConstants.{RAM_BASE}
 
 -- a range that may be used lies in RAM, where it has an address
 abbrev pub UsedIsInRam : Type 0
@@ -14,7 +13,7 @@ UsedIsInRam =
 -- outside of what is written each byte stays
 abbrev pub BytesOutsideStay : Type 0
 BytesOutsideStay =
-    (g : Memory) (others : List ℕ) (a x : ℕ) → RAM_BASE ≤ a → IsOutside a (length others) x → byte (with_bytes g a others) x ≡ byte g x
+    (g : Memory) (others : List ℕ) (a x : ℕ) → ram_base ≤ a → IsOutside a (length others) x → byte (with_bytes g a others) x ≡ byte g x
 
 -- what is written stands there
 abbrev pub WrittenBytesStand : Type 0
@@ -24,7 +23,7 @@ WrittenBytesStand =
 -- a number with no byte in what is written stays
 abbrev pub NumbersOutsideStay : Type 0
 NumbersOutsideStay =
-    (g : Memory) (others : List ℕ) (a b n : ℕ) → RAM_BASE ≤ a → (b + n ≤ a) ⊎ (a + length others ≤ b) → number (with_bytes g a others) b n ≡ number g b n
+    (g : Memory) (others : List ℕ) (a b n : ℕ) → ram_base ≤ a → (b + n ≤ a) ⊎ (a + length others ≤ b) → number (with_bytes g a others) b n ≡ number g b n
 
 -- of a stored number the low bytes stand there, the lowest first, and each other byte stays
 abbrev pub StoreChangesItsBytes : Type 0
