@@ -105,20 +105,27 @@ fn a_range_lies_in_one_region_that_allows_it(rt: HostRuntime) -> Result<(), Fail
 }
 
 #[test]
-fn what_is_written_is_read(rt: HostRuntime) -> Result<(), Fail> {
+fn what_is_stored_is_read(rt: HostRuntime) -> Result<(), Fail> {
     let mut g = one_module(rt.alloc())?;
     let m = ModNo::new(0);
     assert!(rt; g.may(m, Store, 0x8000_01DC, 4));
     g.put(m, 0x8000_01DC, 4, 0x0403_0201);
     assert!(rt; g.may(m, Load, 0x8000_01DD, 2));
     assert_eq!(rt; g.get(m, Load, 0x8000_01DD, 2), 0x0302);
-    assert!(rt; g.reaches(m, Store, 0x8000_01DB, 2));
-    g.window(m, 0x8000_01DB, 2).copy_from_slice(&[7, 8]);
-    assert_eq!(rt; read(&g, 0x8000_01DA, 6), [0, 7, 8, 2, 3, 4].as_slice());
+    assert_eq!(rt; read(&g, 0x8000_01DA, 6), [0, 0, 1, 2, 3, 4].as_slice());
+    Ok(())
+}
+
+#[test]
+fn a_window_is_the_very_bytes(rt: HostRuntime) -> Result<(), Fail> {
+    let mut g = one_module(rt.alloc())?;
+    let m = ModNo::new(0);
+    assert!(rt; g.reaches(m, Store, 0x8000_01DC, 2));
+    g.window(m, 0x8000_01DC, 2).copy_from_slice(&[7, 8]);
     assert_eq!(rt; g.with_window(m, 0x8000_01DF, 1, |w| w.fill(9)), Some(()));
     assert_eq!(rt; g.with_window(m, 0x8000_01DF, 2, |w| w.fill(1)), None);
     assert_eq!(rt; g.with_window(m, 0x8000_01DF, 0, |w| w.fill(1)), None);
-    assert_eq!(rt; read(&g, 0x8000_01DA, 6), [0, 7, 8, 2, 3, 9].as_slice());
+    assert_eq!(rt; read(&g, 0x8000_01DA, 6), [0, 0, 7, 8, 0, 9].as_slice());
     Ok(())
 }
 
