@@ -55,7 +55,7 @@ expect 'p1: the most steps' 0 "$(hart_text 1 'fault 1' 80000084 00000007)" "$txb
 expect 'p2: up to its call' 0 "$p1_text" "$txboard" hart "$top/examples/p2.img" 1
 expect 'p2: its call' 0 "$(hart_text 1 call 80000084 00000007)" "$txboard" hart "$top/examples/p2.img" 2
 expect 'p2b: up to its branch' 0 "$p1_text" "$txboard" hart "$top/examples/p2b.img" 1
-expect 'p2b: its branch' 0 "$(hart_text 1 unbuilt 80000084 00000007)" "$txboard" hart "$top/examples/p2b.img" 2
+expect 'p2b: its branch' 0 "$(hart_text 2 count 80000084 00000007)" "$txboard" hart "$top/examples/p2b.img" 2
 
 # ---- Images: each rule of the preamble, just broken and just kept
 

@@ -21,12 +21,7 @@ const MODULE_0: u16 = 1;
 /// The memory of an image that lies alone in RAM of a size: its code at the start, its data region
 /// behind it.
 #[tactic(auto, unfolding(crate::specs::Alone::alone))]
-pub fn memory_alone(
-    alloc: Global,
-    size: u32,
-    p: &Preamble,
-    image: &[u8],
-) -> Result<Guard, NoMemory>
+pub fn memory_alone(alloc: Global, size: u32, p: &Preamble, image: &[u8]) -> Result<Guard, NoMemory>
     requires room { 4194304 ≤ size }
     requires addressable { size ≤ 2 ^ 31 }
     requires code { p.now.code_size ≡ length image.now }
@@ -71,7 +66,11 @@ fn data_bytes(p: &Preamble) -> u32
     requires { IsPlaceable p.now }
     ensures { result ≡ data_bytes p.now }
 {
-    let callback = if p.has_callback() { rounded_up(p.callback_stack, 16) } else { 0 };
+    let callback = if p.has_callback() {
+        rounded_up(p.callback_stack, 16)
+    } else {
+        0
+    };
     rounded_up(p.data_size, 16) + rounded_up(p.start_stack, 16) + callback
 }
 
