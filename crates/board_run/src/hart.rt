@@ -67,7 +67,7 @@ fn image_ran(alloc: Global, image: &[u8], most: u32) -> Result<Ran, Stop>
 }
 
 /// Reads an image and runs it alone, for at most so many instructions.
-#[tactic(auto, using(crate::proofs::Steps::gives_then, crate::proofs::Steps::stops_after), unfolding(crate::specs::Due::hart_ran))]
+#[tactic(auto, using(crate::proofs::Steps::gives_then, crate::proofs::Steps::stops_after, crate::proofs::Steps::image_reads_nothing), unfolding(crate::specs::Due::hart_ran))]
 pub fn hart_ran<F: Files>(alloc: Global, name: &str, most: u32, files: &mut F) -> Result<Ran, Stop>
     ensures held { F.held files.new ≡ F.held files.old }
     ensures counted { F.faults files.old ≤ F.faults files.new }
