@@ -146,7 +146,8 @@ impl Guard {
 
     /// The n bytes from an address on, where they may be used and there is at least one.
     pub fn bytes(&self, m: ModNo, access: Access, a: u32, n: u32) -> Option<&[u8]>
-        ensures { option_copied result ≡ (if reaches self.now m access a n then Some (bytes_from self.now a n) else None) }
+        ensures { option_copied result
+            ≡ (if reaches self.now m access a n then Some (bytes_from self.now a n) else None) }
     {
         if self.reaches(m, access, a, n) {
             Some(self.ram.bytes(self.offset(m, access, a, n), n))
@@ -179,8 +180,10 @@ impl Guard {
         F: Drop,
         requires callable { (w : MutBor (List ℕ)) → length w.now ≡ n → F.pre f w }
         ensures some { IsSome result ↔ (reaches self.old m Access.Store a n ≡ true) }
-        ensures wrote { MatchOption result (self.new ≡ self.old) (λ r. (w : List ℕ) × (length w ≡ n)
-            × FnOnceReturnsAtMut F.FnOnce f (bytes_from self.old a n) r w × (self.new ≡ with_bytes self.old a w)) }
+        ensures wrote { MatchOption result (self.new ≡ self.old) (λ r.
+            (w : List ℕ) × (length w ≡ n)
+            × FnOnceReturnsAtMut F.FnOnce f (bytes_from self.old a n) r w
+            × (self.new ≡ with_bytes self.old a w)) }
     {
         if self.reaches(m, Access::Store, a, n) {
             Some(f(self.window(m, a, n)))
