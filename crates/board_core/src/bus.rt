@@ -1,16 +1,29 @@
 //! Guarded memory as the bus of a module's code.
 ghost use Rattle.std.specs.Prelude.{◌≡◌};
-ghost use Rattle.board_core.specs.Bus.{seen};
+ghost use Rattle.board_core.specs.Bus.{seen, StoresItsBytes};
 ghost use Rattle.region_guard.specs.Memory.{with_number};
 
-use region_guard::{Access, Guard};
+use region_guard::{
+    Access, Guard, a_store_is_its_low_bytes, a_write_changes_its_bytes_alone,
+    what_may_be_used_is_in_ram,
+};
 use rv_core::{Bus, Cause};
 use tx_types::ModNo;
 
 /// The guard, asked on behalf of one module.
+#[derive(Drop)]
 pub struct GuardBus<'g> {
     pub guard: &'g mut Guard,
     pub module: ModNo,
+}
+
+/// A store that the guard allows puts its bytes, and nothing else changes.
+pub fn a_store_puts_its_bytes()
+    ensures { StoresItsBytes }
+{
+    what_may_be_used_is_in_ram();
+    a_store_is_its_low_bytes();
+    a_write_changes_its_bytes_alone();
 }
 
 impl Bus for GuardBus<'_> {
@@ -42,6 +55,7 @@ impl Bus for GuardBus<'_> {
             return Err(Cause::StoreMisaligned);
         }
         if self.guard.may(self.module, Access::Store, a, n) {
+            a_store_puts_its_bytes();
             self.guard.put(self.module, a, n, value);
             Ok(())
         } else {

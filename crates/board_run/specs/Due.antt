@@ -4,13 +4,12 @@ use Rattle.std.specs.Prelude.{ℕ, nat_lt, if◌then◌else◌, List, [], length
 use Rattle.module_preamble.specs.Preamble.{preamble}
 use Rattle.module_preamble.specs.declared.words.Preamble.{Preamble}
 use Rattle.module_preamble.specs.declared.refusal.PreErr.{PreErr}
-use Rattle.rv_core.specs.Execute.{executed}
 use Rattle.board_run.specs.Command.{Row, Hart, row_of}
-use Rattle.board_run.specs.Hart.{ran, image_byte, image_lets_fetch, hart_text}
+use Rattle.board_run.specs.Alone.{alone}
+use Rattle.board_run.specs.Hart.{memory_ran, hart_text}
 use Rattle.board_run.specs.Opening.{opening}
 use Rattle.board_run.specs.Refusal.{refusal_line}
 use Rattle.board_run.specs.declared.hart.Ran.{Ran}
-use Rattle.board_run.specs.declared.reading.TheConstants.{MOST_IMAGE}
 use Rattle.board_run.specs.declared.refusal.Refusal.{Refusal}
 use Rattle.board_run.specs.declared.refusal.Refusal.TheVariants.{ImageTooLarge, Image}
 use Rattle.board_run.specs.declared.refusal.Stop.{Stop}
@@ -36,7 +35,7 @@ held_file (Some bytes) = Ok bytes
 abbrev pub image_at : ℕ → List ℕ → (List ℕ → Option (List ℕ)) → Result (List ℕ) Stop
 image_at number name at = do
   bytes ← held_file (at name)
-  within MOST_IMAGE (ImageTooLarge number) bytes
+  within 1048576 (ImageTooLarge number) bytes
 
 -- the preamble of the image of a number, or its refusal
 abbrev pub refused_image : ℕ → Result Preamble PreErr → Result Preamble Stop
@@ -47,7 +46,7 @@ refused_image number (Err err) = Err (Refused (Image number err))
 unfoldable pub image_ran : ℕ → List ℕ → Result Ran Stop
 image_ran most bytes = do
   p ← refused_image 0 (preamble bytes)
-  Ok (ran (executed (image_lets_fetch bytes) (image_byte bytes)) most (opening p))
+  Ok (memory_ran most (alone 4194304 p bytes) (opening p))
 
 unfoldable pub hart_ran : List ℕ → ℕ → (List ℕ → Option (List ℕ)) → Result Ran Stop
 hart_ran name most at = do

@@ -11,9 +11,9 @@ use Rattle.board_run.specs.Faults.{risen}
 abbrev pub IsFrontOf : Option (List ℕ) → ℕ → List ℕ → Type 0
 IsFrontOf file max bytes = IsSomeAnd file (λ held. bytes ≡ take (max + 1) held)
 
--- the name isn't held, or there was a fault; nothing is said where it isn't told what is held
+-- the name isn't held, or there was a fault; where it isn't told what is held, there was a fault
 abbrev pub IsMissing : Option (List ℕ → Option (List ℕ)) → List ℕ → Type 0 → Type 0
-IsMissing None name fault = Unit {0}
+IsMissing None name fault = fault
 IsMissing (Some at) name fault = (at name ≡ None) ⊎ fault
 
 -- files in memory: the bytes under each name, the numbers of the reads that fail, and the reads and faults so far

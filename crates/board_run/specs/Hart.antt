@@ -1,47 +1,41 @@
 -- The run of one image alone, and its text.
-use Rattle.std.specs.Prelude.{ℕ, zero, suc, ◌+◌, ◌-◌, ◌&&◌, ◌==◌, Bool, nat_le, if◌then◌else◌, List, ◌++◌, length, drop, slice_index, codes, decimal}
+use Rattle.std.specs.Prelude.{ℕ, zero, suc, ◌+◌, List, ◌++◌, drop, codes, decimal}
 use Rattle.std.specs.List.{flat_map}
 use Rattle.tx_types.specs.Line.{hex}
 use Rattle.rv_core.specs.Cause.{cause_number}
-use Rattle.rv_core.specs.Execute.{Effect, Completes, Calls, Faults}
+use Rattle.rv_core.specs.Execute.{Effect, Completes, Stores, Calls, Faults, executed}
 use Rattle.rv_core.specs.Hart.{HartState}
-use Rattle.rv_core.specs.declared.bus.Cause.TheVariants.{Illegal}
+use Rattle.region_guard.specs.Memory.{Memory, with_number}
+use Rattle.board_core.specs.Bus.{seen}
 use Rattle.board_run.specs.declared.hart.End.{End}
 use Rattle.board_run.specs.declared.hart.End.TheVariants.{Count, Call, Fault}
 use Rattle.board_run.specs.declared.hart.Ran.{Ran}
-use Rattle.board_run.specs.declared.hart.TheConstants.{RAM_BASE}
 
 -- a run with so many more completed instructions before it
 abbrev pub after_steps : ℕ → Ran → Ran
 after_steps n r = record r { steps = n + r.steps }
 
 -- what a run is, by the effect of its next instruction: a call isn't counted, and it and a fault leave the hart as it was
-abbrev pub ran_by : (HartState → Ran) → HartState → Effect → Ran
-ran_by rest h (Completes next) = after_steps 1 (rest next)
-ran_by rest h (Calls next) = record { steps = 0; end = Call; hart = h }
-ran_by rest h (Faults cause) = record { steps = 0; end = Fault cause; hart = h }
+abbrev pub ran_by : {B : Type 0} → (B → HartState → Ran) → (B → (a n value : ℕ) → B) → B → HartState → Effect → Ran
+ran_by rest store bus h (Completes next) = after_steps 1 (rest bus next)
+ran_by rest store bus h (Stores a n value next) = after_steps 1 (rest (store bus a n value) next)
+ran_by rest store bus h (Calls next) = record { steps = 0; end = Call; hart = h }
+ran_by rest store bus h (Faults cause) = record { steps = 0; end = Fault cause; hart = h }
 
--- the run of at most n instructions
-abbrev pub ran : (HartState → Effect) → ℕ → HartState → Ran
-ran effect zero h = record { steps = 0; end = Count; hart = h }
-ran effect (suc n) h = ran_by (ran effect n) h (effect h)
+-- the run of at most n instructions, over what an instruction does and what a store makes of the bus
+abbrev pub ran : {B : Type 0} → (B → HartState → Effect) → (B → (a n value : ℕ) → B) → ℕ → B → HartState → Ran
+ran effect store zero bus h = record { steps = 0; end = Count; hart = h }
+ran effect store (suc n) bus h = ran_by (ran effect store n) store bus h (effect bus h)
 
--- an image that lies alone at the start of RAM: its bytes by address, and what may be fetched
-abbrev pub image_byte : List ℕ → ℕ → ℕ
-image_byte image a = slice_index image (a - RAM_BASE)
-
-abbrev pub image_lets_fetch : List ℕ → ℕ → Bool
-image_lets_fetch image a = nat_le RAM_BASE a && nat_le (a + 4) (RAM_BASE + length image)
-
--- the number of a cause; an instruction that isn't built yet has none
-abbrev pub fault_text : ℕ → List ℕ
-fault_text number = if number == cause_number Illegal then codes "unbuilt" else codes "fault " ++ decimal number
+-- the run of code of module 0 in guarded memory
+unfoldable pub memory_ran : ℕ → Memory → HartState → Ran
+memory_ran most memory h = ran (λ g. executed (seen 0 g)) with_number most memory h
 
 -- how a run ended
 abbrev pub end_text : End → List ℕ
 end_text Count = codes "count"
 end_text Call = codes "call"
-end_text (Fault cause) = fault_text (cause_number cause)
+end_text (Fault cause) = codes "fault " ++ decimal (cause_number cause)
 
 abbrev pub newline : List ℕ
 newline = codes "\n"

@@ -32,3 +32,6 @@ abbrev pub stop_of : ReadErr → Stop
 stop_of Failed = ReadFault
 stop_of Missing = ReadFault
 stop_of NoMemory = StopNoMemory
+
+abbrev pub want_of_memory : Stop
+want_of_memory = StopNoMemory

@@ -1,9 +1,7 @@
 //! One module image, run alone.
 //!
-//! The image lies at the start of RAM and nothing else is there yet: its bytes may be fetched, and there
-//! is no memory to load from or to store to.
-ghost use Rattle.std.specs.Prelude.{◌≡◌, ◌+◌, ◌*◌, ◌≤◌, ◌++◌, length};
-ghost use Rattle.std.specs.Prelude.{IfOk};
+//! The image is module 0, and its code and data are all that it may use.
+ghost use Rattle.std.specs.Prelude.{◌≡◌, ◌+◌, ◌*◌, ◌≤◌, ◌++◌, length, IfOk};
 ghost use Rattle.std.specs.Option.{option_map};
 ghost use Rattle.arrayvec.specs.ArrayString.{array_string_len};
 ghost use Rattle.module_preamble.specs.Preamble.{preamble};
@@ -11,23 +9,22 @@ ghost use Rattle.rv_core.specs.Execute.{executed};
 ghost use Rattle.board_run.specs.Due.{refused_image, image_ran, hart_ran};
 ghost use Rattle.board_run.specs.Faults.{Rose};
 ghost use Rattle.board_run.specs.Opening.{IsPlaceable};
-ghost use Rattle.board_run.specs.Reading.{Gives};
+ghost use Rattle.board_run.specs.Reading.{Gives, GivesHere};
 ghost use Rattle.board_run.specs.Sink.{Wrote};
-ghost use Rattle.board_run.specs.Hart.{ran, hart_text, image_byte, image_lets_fetch, end_text, fault_text, newline, steps_line, pc_line, regs_line, words_text};
+ghost use Rattle.board_run.specs.Hart.{ran, memory_ran, hart_text, end_text, newline, steps_line, pc_line, regs_line, words_text};
 
+use crate::alone::{RAM_ALONE, memory_alone};
 use crate::files::Files;
 use crate::opening::opening;
 use crate::reading::{MOST_IMAGE, image_of};
 use crate::refusal::{Refusal, Stop};
 use crate::sink::{Sink, WriteErr};
-use byteorder::{ByteOrder, LittleEndian};
+use board_core::GuardBus;
 use module_preamble::Preamble;
+use region_guard::Guard;
 use rv_core::{Bus, Cause, Hart, Out, step};
 use std::alloc::Global;
-use tx_types::{Line, put_decimal, put_hex};
-
-/// The address of the first byte of RAM.
-pub const RAM_BASE: u32 = 0x8000_0000;
+use tx_types::{Line, ModNo, put_decimal, put_hex};
 
 /// How a run of a bounded number of instructions ended.
 #[derive(Clone, Copy, Debug, PartialEq, Eq)]
@@ -45,34 +42,12 @@ pub struct Ran {
     pub hart: Hart,
 }
 
-/// The bytes of an image that lies alone at the start of RAM.
-#[derive(Drop)]
-struct ImageBus<'a> {
-    image: &'a [u8],
-}
-
-impl Bus for ImageBus<'_> {
-    ghost byte = { λ bus. image_byte bus.image.now };
-
-    ghost lets_fetch = { λ bus. image_lets_fetch bus.image.now };
-
-    fn fetch(&self, a: u32) -> Result<u32, Cause> {
-        if a < RAM_BASE {
-            return Err(Cause::FetchOutside);
-        }
-        let at = (a - RAM_BASE) as usize;
-        if at + 4 > self.image.len() {
-            return Err(Cause::FetchOutside);
-        }
-        Ok(LittleEndian::read_u32(&self.image[at..]))
-    }
-}
-
 /// The preamble of the image of a number, or its refusal.
 fn preamble_of(number: u8, image: &[u8]) -> Result<Preamble, Stop>
     requires { length image.now ≤ MOST_IMAGE }
     ensures preamble { result ≡ refused_image number (preamble image.now) }
     ensures placeable { IfOk result IsPlaceable }
+    ensures code { IfOk result (λ p. p.code_size ≡ length image.now) }
 {
     match module_preamble::read(image) {
         Ok(p) => Ok(p),
@@ -81,18 +56,18 @@ fn preamble_of(number: u8, image: &[u8]) -> Result<Preamble, Stop>
 }
 
 /// The run of an image that lies alone, for at most so many instructions, or its refusal.
-#[tactic(auto, unfolding(crate::specs::Due::image_ran))]
-fn image_ran(image: &[u8], most: u32) -> Result<Ran, Stop>
+#[tactic(auto, using(crate::proofs::Steps::gives_one), unfolding(crate::specs::Due::image_ran))]
+fn image_ran(alloc: Global, image: &[u8], most: u32) -> Result<Ran, Stop>
     requires { length image.now ≤ MOST_IMAGE }
-    ensures { result ≡ image_ran most image.now }
+    ensures { GivesHere (image_ran most image.now) result }
 {
     let p = preamble_of(0, image)?;
-    let mut bus = ImageBus { image };
-    Ok(run(opening(&p), &mut bus, most))
+    let mut guard = memory_alone(alloc, RAM_ALONE, &p, image)?;
+    Ok(memory_ran(&mut guard, opening(&p), most))
 }
 
 /// Reads an image and runs it alone, for at most so many instructions.
-#[tactic(auto, using(crate::proofs::Steps::gives_then, crate::proofs::Steps::stops_after), unfolding(crate::specs::Due::hart_ran))]
+#[tactic(auto, using(crate::proofs::Steps::gives_then, crate::proofs::Steps::stops_after, crate::proofs::Steps::image_reads_nothing), unfolding(crate::specs::Due::hart_ran))]
 pub fn hart_ran<F: Files>(alloc: Global, name: &str, most: u32, files: &mut F) -> Result<Ran, Stop>
     ensures held { F.held files.new ≡ F.held files.old }
     ensures counted { F.faults files.old ≤ F.faults files.new }
@@ -100,7 +75,7 @@ pub fn hart_ran<F: Files>(alloc: Global, name: &str, most: u32, files: &mut F) -
         (Rose (F.faults files.old) (F.faults files.new)) result }
 {
     let image = image_of(alloc, 0, name, files)?;
-    image_ran(&image, most)
+    image_ran(alloc, &image, most)
 }
 
 /// Writes the text of a run, a line at a time.
@@ -115,9 +90,19 @@ pub fn write_hart<S: Sink>(ran: &Ran, sink: &mut S) -> Result<(), WriteErr>
     sink.write(regs_line(ran).as_str().as_bytes())
 }
 
+/// Runs the code of module 0.
+#[tactic(auto, using(crate::proofs::Running::ran_guarded), unfolding(crate::specs::Hart::memory_ran))]
+fn memory_ran(guard: &mut Guard, hart: Hart, most: u32) -> Ran
+    ensures { result ≡ memory_ran most guard.old hart }
+{
+    let module = ModNo::new(0);
+    let mut bus = GuardBus { guard, module };
+    run(hart, &mut bus, most)
+}
+
 /// Executes at most so many instructions. A call isn't counted, and pc stays on it.
 fn run<B: Bus>(mut hart: Hart, bus: &mut B, most: u32) -> Ran
-    ensures { result ≡ ran (executed (B.lets_fetch bus.old) (B.byte bus.old)) most hart }
+    ensures { result ≡ ran (λ b. executed (B.memory b)) B.after_store most bus.old hart }
 {
     for steps in 0..most {
         let pc = hart.pc;
@@ -149,21 +134,10 @@ fn put_end(line: &mut Line, end: End)
     match end {
         End::Count => line.push_str("count"),
         End::Call => line.push_str("call"),
-        End::Fault(cause) => put_fault(line, cause.number()),
-    }
-}
-
-/// Appends the number of a cause; an instruction that isn't built yet has no number.
-fn put_fault(line: &mut Line, number: u32)
-    requires { array_string_len line.old + 16 ≤ 1280 }
-    ensures bytes { line.new.bytes ≡ line.old.bytes ++ fault_text number }
-    ensures short { array_string_len line.new ≤ array_string_len line.old + 16 }
-{
-    if number == Cause::Illegal.number() {
-        line.push_str("unbuilt");
-    } else {
-        line.push_str("fault ");
-        put_decimal(line, number);
+        End::Fault(cause) => {
+            line.push_str("fault ");
+            put_decimal(line, cause.number());
+        }
     }
 }
 

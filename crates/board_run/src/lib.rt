@@ -4,6 +4,7 @@
 //! contracts. Both count their faults: a call that failed by the outside shows it by a higher count.
 #![tactic(auto)]
 
+mod alone;
 mod command;
 mod files;
 mod hart;

@@ -3,11 +3,11 @@
 //! A refusal is printed as one line; the other two print nothing.
 ghost use Rattle.std.specs.Prelude.{◌≡◌, ◌+◌, ◌≤◌, ◌++◌};
 ghost use Rattle.arrayvec.specs.ArrayString.{array_string_len};
-ghost use Rattle.board_run.specs.Refusal.{refusal_line, refusal_text, rule_text, stop_of};
+ghost use Rattle.board_run.specs.Refusal.{refusal_line, refusal_text, rule_text, stop_of, want_of_memory};
 
 use crate::files::ReadErr;
 use module_preamble::PreErr;
-use tx_types::{Line, put_decimal, put_hex};
+use tx_types::{Line, NoMemory, put_decimal, put_hex};
 
 /// A file that was read and is refused.
 #[derive(Clone, Copy, Debug, PartialEq, Eq)]
@@ -34,6 +34,14 @@ impl From<ReadErr> for Stop {
             ReadErr::Failed | ReadErr::Missing => Stop::ReadFault,
             ReadErr::NoMemory => Stop::NoMemory,
         }
+    }
+}
+
+impl From<NoMemory> for Stop {
+    ghost from_gives = { λ _ stop. stop ≡ want_of_memory };
+
+    fn from(_: NoMemory) -> Stop {
+        Stop::NoMemory
     }
 }
 

@@ -1,5 +1,5 @@
 //! The top call of the commands that need no thread.
-ghost use Rattle.std.specs.Prelude.{◌≡◌, ◌≤◌, IfSome, map, string_bytes, MatchResult};
+ghost use Rattle.std.specs.Prelude.{◌≡◌, ◌≤◌, IfSome, IfNone, map, string_bytes, MatchResult};
 ghost use Rattle.board_run.specs.Answer.{Answers, Settles, Always, Completes};
 ghost use Rattle.board_run.specs.Command.{Hart, row_of};
 ghost use Rattle.board_run.specs.Due.{due, row_text, due_of};
@@ -37,6 +37,9 @@ pub fn board_still<F: Files, S: Sink>(
     ensures complete { IfSome (F.held files.old) (λ at. Completes (due (map string_bytes words.now) at)
         (Rose (F.faults files.old) (F.faults files.new)) (Rose (S.faults sink.old) (S.faults sink.new)) result) }
 
+    // Where the files don't tell what they hold, a fault of reading was counted.
+    ensures untold { IfNone (F.held files.old) (result ≡ Status.ReadFault → Rose (F.faults files.old) (F.faults files.new)) }
+
     // By the words alone, whatever the files hold.
     ensures always { Always (row_of (map string_bytes words.now)) (Rose (S.faults sink.old) (S.faults sink.new))
         (S.written sink.old) (S.written sink.new) result }
@@ -52,6 +55,7 @@ fn answer<F: Files, S: Sink>(alloc: Global, words: &[String], files: &mut F, sin
     ensures answers { IfSome (F.held files.old) (λ at. Answers (due (map string_bytes words.now) at)
         (Rose (F.faults files.old) (F.faults files.new)) (Rose (S.faults sink.old) (S.faults sink.new))
         (S.written sink.old) (S.written sink.new) result) }
+    ensures untold { IfNone (F.held files.old) (result ≡ Status.ReadFault → Rose (F.faults files.old) (F.faults files.new)) }
     ensures always { Always (row_of (map string_bytes words.now)) (Rose (S.faults sink.old) (S.faults sink.new))
         (S.written sink.old) (S.written sink.new) result }
 {
@@ -75,6 +79,7 @@ fn hart<F: Files, S: Sink>(
     ensures answers { IfSome (F.held files.old) (λ at. Answers (due_of (row_text (Hart image.now most) at))
         (Rose (F.faults files.old) (F.faults files.new)) (Rose (S.faults sink.old) (S.faults sink.new))
         (S.written sink.old) (S.written sink.new) result) }
+    ensures untold { IfNone (F.held files.old) (result ≡ Status.ReadFault → Rose (F.faults files.old) (F.faults files.new)) }
     ensures settles { Settles (Rose (S.faults sink.old) (S.faults sink.new)) (S.written sink.old) (S.written sink.new) result }
 {
     match hart_ran(alloc, image, most, files) {

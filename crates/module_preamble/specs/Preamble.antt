@@ -6,7 +6,6 @@ use Rattle.module_preamble.specs.Words.{words_of, has_callback}
 use Rattle.module_preamble.specs.declared.words.Preamble.{Preamble}
 use Rattle.module_preamble.specs.declared.refusal.PreErr.{PreErr}
 use Rattle.module_preamble.specs.declared.refusal.PreErr.TheVariants.{Short, BadId, BadMajor, BadSize, BadProps, BadCode, BadData, BadEntry, BadPrio, BadStack}
-use Rattle.module_preamble.specs.declared.rules.TheConstants.{MODULE_ID, FIRST_MAJOR, LAST_MAJOR, PREAMBLE_WORDS, PREAMBLE_BYTES, USER_MODE, MEMORY_PROTECTION, MOST_DATA, PRIORITIES, LEAST_STACK, MOST_STACK}
 
 -- a rule: whether it holds, and the refusal where it doesn't
 pub record Rule : Type 0 where
@@ -23,7 +22,7 @@ judged (r ∷ rules) x = if r.holds then judged rules x else Err r.refusal
 
 -- an entry is the offset of an instruction behind the preamble
 abbrev pub is_entry : Preamble → ℕ → Bool
-is_entry p w = (w % 4 == 0) && nat_le PREAMBLE_BYTES w && nat_lt w p.code_size
+is_entry p w = (w % 4 == 0) && nat_le 128 w && nat_lt w p.code_size
 
 -- an entry, or 0 for none
 abbrev pub is_optional_entry : Preamble → ℕ → Bool
@@ -31,26 +30,26 @@ is_optional_entry p w = (w == 0) || is_entry p w
 
 -- a size that a stack may have
 abbrev pub is_stack : ℕ → Bool
-is_stack w = nat_le LEAST_STACK w && nat_le w MOST_STACK
+is_stack w = nat_le 64 w && nat_le w 65536
 
 -- an image has room for a preamble
 unfoldable pub length_rules : List ℕ → List Rule
-length_rules bytes = rule (nat_le PREAMBLE_BYTES (length bytes)) (Short (length bytes)) ∷ []
+length_rules bytes = rule (nat_le 128 (length bytes)) (Short (length bytes)) ∷ []
 
 -- the preamble is that of a module in a known version, which runs in user mode under memory protection
 unfoldable pub identity_rules : Preamble → List Rule
 identity_rules p =
-    rule (p.id == MODULE_ID) (BadId p.id)
-    ∷ rule (nat_le FIRST_MAJOR p.major && nat_le p.major LAST_MAJOR) (BadMajor p.major)
-    ∷ rule (p.words == PREAMBLE_WORDS) (BadSize p.words)
-    ∷ rule ((bit_at p.props USER_MODE == 1) && (bit_at p.props MEMORY_PROTECTION == 1)) (BadProps p.props)
+    rule (p.id == 0x4D4F4455) (BadId p.id)
+    ∷ rule (nat_le 1 p.major && nat_le p.major 6) (BadMajor p.major)
+    ∷ rule (p.words == 32) (BadSize p.words)
+    ∷ rule ((bit_at p.props 0 == 1) && (bit_at p.props 1 == 1)) (BadProps p.props)
     ∷ []
 
 -- the code is the whole image, and the data has a bound
 unfoldable pub size_rules : ℕ → Preamble → List Rule
 size_rules len p =
     rule ((p.code_size % 4 == 0) && (p.code_size == len)) (BadCode p.code_size)
-    ∷ rule (nat_le p.data_size MOST_DATA) (BadData p.data_size)
+    ∷ rule (nat_le p.data_size 1048576) (BadData p.data_size)
     ∷ []
 
 -- shell and start are entries; stop and callback are, or are none
@@ -65,8 +64,8 @@ entry_rules p =
 -- the callback thread's priority is looked at where there is one
 unfoldable pub priority_rules : Preamble → List Rule
 priority_rules p =
-    rule (nat_lt p.start_prio PRIORITIES) (BadPrio 0 p.start_prio)
-    ∷ rule (not (has_callback p) || nat_lt p.callback_prio PRIORITIES) (BadPrio 1 p.callback_prio)
+    rule (nat_lt p.start_prio 32) (BadPrio 0 p.start_prio)
+    ∷ rule (not (has_callback p) || nat_lt p.callback_prio 32) (BadPrio 1 p.callback_prio)
     ∷ []
 
 -- and so is its stack
@@ -89,24 +88,24 @@ preamble bytes = judged (rules bytes) (words_of bytes)
 -- a word is the offset of an instruction behind the preamble
 pub record IsEntry (p : Preamble) (w : ℕ) : Type 0 where
   pub aligned : w % 4 ≡ 0
-  pub behind : PREAMBLE_BYTES ≤ w
+  pub behind : 128 ≤ w
   pub inside : w < p.code_size
 
 -- a stack may have this size
 pub record IsStack (size : ℕ) : Type 0 where
-  pub least : LEAST_STACK ≤ size
-  pub most : size ≤ MOST_STACK
+  pub least : 64 ≤ size
+  pub most : size ≤ 65536
 
 -- what the layers above rely on in an accepted image with these words
 pub record IsAccepted (bytes : List ℕ) (p : Preamble) : Type 0 where
   pub words : p ≡ words_of bytes
   pub code_size : p.code_size ≡ length bytes
   pub code_words : p.code_size % 4 ≡ 0
-  pub data_size : p.data_size ≤ MOST_DATA
+  pub data_size : p.data_size ≤ 1048576
   pub shell : IsEntry p p.shell
   pub start : IsEntry p p.start
   pub callback : IsTrue (has_callback p) → IsEntry p p.callback
-  pub start_prio : p.start_prio < PRIORITIES
-  pub callback_prio : IsTrue (has_callback p) → p.callback_prio < PRIORITIES
+  pub start_prio : p.start_prio < 32
+  pub callback_prio : IsTrue (has_callback p) → p.callback_prio < 32
   pub start_stack : IsStack p.start_stack
   pub callback_stack : IsTrue (has_callback p) → IsStack p.callback_stack

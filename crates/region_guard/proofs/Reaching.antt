@@ -1,18 +1,13 @@
 -- A range that may be used lies in RAM.
-use Rattle.std.proofs.Common.{◌≡◌, ℕ, ◌+◌, ◌<◌, ◌≤◌, ◌==◌, ◌&&◌, true, List, [], ◌∷◌, length, nat_le, All, ⊎_elim, arith}
+use Rattle.std.proofs.Common.{◌≡◌, ℕ, ◌+◌, ◌==◌, ◌&&◌, true, List, [], ◌∷◌, nat_le, All, ⊎_elim, arith}
 use Rattle.std.proofs.lemmas.Bool.{and_parts, eqb-true, false≢true, leb-true, or_cases}
 use Rattle.std.proofs.lemmas.List.Elements.{All-head, All-tail}
 use Rattle.std.specs.List.{list_any}
-use Rattle.region_guard.specs.Memory.{Memory, IsInRam, IsSound, may}
+use Rattle.region_guard.specs.Laws.{UsedIsInRam}
+use Rattle.region_guard.specs.Memory.{IsInRam, IsRangeInRam}
 use Rattle.region_guard.specs.Region.{covers, gives, is_for, lets}
 use Rattle.region_guard.specs.declared.region.Access.{Access}
 use Rattle.region_guard.specs.declared.region.Region.{Region}
-use Rattle.region_guard.specs.declared.TheConstants.{RAM_BASE}
-
--- the n addresses from a on are in RAM
-pub record IsRangeInRam (bytes : List ℕ) (a n : ℕ) : Type 0 where
-  pub from_base : RAM_BASE ≤ a
-  pub to_end : a + n ≤ RAM_BASE + length bytes
 
 in_region : (bytes : List ℕ) (r : Region) (m : ℕ) (k : Access) (a n : ℕ) → IsInRam bytes r → lets m k a n r ≡ true → IsRangeInRam bytes a n
 in_region bytes r m k a n inside used =
@@ -21,8 +16,8 @@ in_region bytes r m k a n inside used =
     let ends = and_parts (nat_le r.base a) (nat_le (a + n) (r.base + r.size)) by_range.0 in
     let low = leb-true r.base a ends.0 in
     let high = leb-true (a + n) (r.base + r.size) ends.1 in
-    let base = inside.from_base in
-    let end = inside.to_end in
+    let base = inside.range.from_base in
+    let end = inside.range.to_end in
     record { from_base = omega arith; to_end = omega arith }
 
 in_some_region : (bytes : List ℕ) (rs : List Region) (m : ℕ) (k : Access) (a n : ℕ) → All (IsInRam bytes) rs → list_any (lets m k a n) rs ≡ true → IsRangeInRam bytes a n
@@ -30,6 +25,6 @@ in_some_region bytes [] m k a n all used = absurd (false≢true used)
 in_some_region bytes (r ∷ rs) m k a n all used =
     ⊎_elim (λ here. in_region bytes r m k a n (All-head (IsInRam bytes) r rs all) here) (λ later. in_some_region bytes rs m k a n (All-tail (IsInRam bytes) r rs all) later) (or_cases (lets m k a n r) (list_any (lets m k a n) rs) used)
 
-pub used_is_in_ram : (g : Memory) (m : ℕ) (k : Access) (a n : ℕ) → IsSound g → 0 < n → may g m k a n ≡ true → IsRangeInRam g.bytes a n
+pub used_is_in_ram : UsedIsInRam
 used_is_in_ram g m k a n sound some used =
     ⊎_elim (λ none. let zero_n = eqb-true n 0 none in absurd (omega arith)) (λ reached. in_some_region g.bytes g.regions m k a n sound.in_ram reached) (or_cases (n == 0) (list_any (lets m k a n) g.regions) used)

@@ -5,7 +5,6 @@ use Rattle.region_guard.specs.Region.{meets}
 use Rattle.region_guard.specs.declared.guard.AddErr.{AddErr}
 use Rattle.region_guard.specs.declared.guard.AddErr.TheVariants.{Full, Overlap}
 use Rattle.region_guard.specs.declared.region.Region.{Region}
-use Rattle.region_guard.specs.declared.TheConstants.{MOST_REGIONS}
 
 -- refused where it meets a region, by that region's place
 abbrev pub unless_met : Option ℕ → Result (Unit {0}) AddErr
@@ -14,7 +13,7 @@ unless_met (Some i) = Err (Overlap i)
 
 -- no region goes into full memory, nor one that meets another: the first that it meets is named
 abbrev pub add_answer : Memory → Region → Result (Unit {0}) AddErr
-add_answer g r = if length g.regions == MOST_REGIONS then Err Full else unless_met (position (meets r) g.regions)
+add_answer g r = if length g.regions == 64 then Err Full else unless_met (position (meets r) g.regions)
 
 -- an added region goes last; a refusal changes nothing
 abbrev pub after_add : Memory → Region → Result (Unit {0}) AddErr → Memory

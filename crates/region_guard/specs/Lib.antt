@@ -1,4 +1,5 @@
 pub mod Add
+pub mod Laws
 pub mod Lending
 pub mod Memory
 pub mod Region

@@ -1,4 +1,4 @@
--- Guarded memory: RAM from the address RAM_BASE on, and the regions in which it may be used.
+-- Guarded memory: RAM from an address on, and the regions in which it may be used.
 use Rattle.std.specs.Prelude.{◌≡◌, ℕ, ◌+◌, ◌-◌, ◌<◌, ◌≤◌, ◌^◌, ◌==◌, ◌||◌, ◌&&◌, Bool, false, not, nat_le, List, length, slice_index, slice_range, All, AllPairs, if◌then◌else◌}
 use Rattle.std.specs.List.{list_any}
 use Rattle.machine_words.specs.Number.{number_from, low_bytes}
@@ -6,7 +6,10 @@ use Rattle.flat_ram.specs.Ram.{over}
 use Rattle.region_guard.specs.Region.{lets, meets}
 use Rattle.region_guard.specs.declared.region.Access.{Access}
 use Rattle.region_guard.specs.declared.region.Region.{Region}
-use Rattle.region_guard.specs.declared.TheConstants.{RAM_BASE, MOST_REGIONS}
+
+-- where RAM begins
+abbrev pub ram_base : ℕ
+ram_base = 0x80000000
 
 -- the regions in the order in which they were added, and the bytes of RAM
 pub record Memory : Type 0 where
@@ -23,7 +26,7 @@ reaches g m k a n = not (n == 0) && may g m k a n
 
 -- the byte at an address, and 0 where there is no RAM
 abbrev pub byte : Memory → ℕ → ℕ
-byte g a = if nat_le RAM_BASE a then slice_index g.bytes (a - RAM_BASE) else 0
+byte g a = if nat_le ram_base a then slice_index g.bytes (a - ram_base) else 0
 
 -- the number in the n bytes from an address on, the lowest first
 abbrev pub number : Memory → ℕ → ℕ → ℕ
@@ -31,25 +34,29 @@ number g a n = number_from (byte g) a n
 
 -- the n bytes from an address on
 abbrev pub bytes_from : Memory → ℕ → ℕ → List ℕ
-bytes_from g a n = slice_range g.bytes (a - RAM_BASE) (a - RAM_BASE + n)
+bytes_from g a n = slice_range g.bytes (a - ram_base) (a - ram_base + n)
 
 -- the memory with bytes in the place of those from an address on
 abbrev pub with_bytes : Memory → ℕ → List ℕ → Memory
-with_bytes g a others = record g { bytes = over g.bytes (a - RAM_BASE) others }
+with_bytes g a others = record g { bytes = over g.bytes (a - ram_base) others }
 
 -- the memory with the low n bytes of v from an address on, the lowest first
 abbrev pub with_number : Memory → ℕ → ℕ → ℕ → Memory
 with_number g a n v = with_bytes g a (low_bytes n v)
 
+-- the n addresses from a on are in RAM
+pub record IsRangeInRam (bytes : List ℕ) (a n : ℕ) : Type 0 where
+  pub from_base : ram_base ≤ a
+  pub to_end : a + n ≤ ram_base + length bytes
+
 -- a region has an address, and all of them are in RAM
 pub record IsInRam (bytes : List ℕ) (r : Region) : Type 0 where
   pub not_empty : 0 < r.size
-  pub from_base : RAM_BASE ≤ r.base
-  pub to_end : r.base + r.size ≤ RAM_BASE + length bytes
+  pub range : IsRangeInRam bytes r.base r.size
 
 -- what holds of all guarded memory
 pub record IsSound (g : Memory) : Type 0 where
-  pub at_most : length g.regions ≤ MOST_REGIONS
+  pub at_most : length g.regions ≤ 64
   pub in_ram : All (IsInRam g.bytes) g.regions
   pub apart : AllPairs (λ earlier later. meets later earlier ≡ false) g.regions
-  pub addressable : RAM_BASE + length g.bytes ≤ 2 ^ 32
+  pub addressable : ram_base + length g.bytes ≤ 2 ^ 32

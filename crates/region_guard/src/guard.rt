@@ -10,7 +10,7 @@ ghost use Rattle.machine_words.specs.Number.{IsWidth};
 ghost use Rattle.region_guard.specs.Add.{add_answer, after_add};
 ghost use Rattle.region_guard.specs.Lending.{LendsWindow};
 ghost use Rattle.region_guard.specs.Region.{meets};
-ghost use Rattle.region_guard.specs.Memory.{Memory, IsInRam, IsSound, may, reaches, number, bytes_from, with_bytes, with_number};
+ghost use Rattle.region_guard.specs.Memory.{Memory, IsInRam, IsRangeInRam, IsSound, may, reaches, number, bytes_from, with_bytes, with_number};
 
 use crate::region::{Access, Region, some_lets};
 use crate::{MOST_REGIONS, RAM_BASE};
@@ -36,7 +36,6 @@ pub struct Guard {
 
 impl Model for Guard {
     ghost use Rattle.std.specs.Prelude.{◌≤◌, vec_capacity};
-    ghost use Rattle.region_guard.specs.Region.{meets};
     ghost use Rattle.region_guard.specs.Memory.{Memory, IsSound};
 
     ghost Value = { Memory };
@@ -76,9 +75,11 @@ impl Guard {
     /// access. No address at all may always be used.
     #[inline]
     pub fn may(&self, m: ModNo, access: Access, a: u32, n: u32) -> bool
-        ensures { result ≡ may self.now m access a n }
+        ensures answer { result ≡ may self.now m access a n }
+        ensures sound { IsSound self.now }
     {
-        n == 0 || some_lets(&self.regions, m, access, a, n)
+        let regions = &self.regions;
+        n == 0 || some_lets(regions, m, access, a, n)
     }
 
     /// Whether module m may use the n addresses from a on, and there is at least one.
@@ -125,7 +126,8 @@ impl Guard {
     pub fn get(&self, m: ModNo, access: Access, a: u32, n: u32) -> u32
         requires width { IsWidth n }
         requires allowed { may self.now m access a n ≡ true }
-        ensures { result ≡ number self.now a n }
+        ensures number { result ≡ number self.now a n }
+        ensures in_ram { IsRangeInRam self.now.bytes a n }
     {
         self.ram.get(self.offset(m, access, a, n), n)
     }
@@ -135,7 +137,8 @@ impl Guard {
     pub fn put(&mut self, m: ModNo, a: u32, n: u32, v: u32)
         requires width { IsWidth n }
         requires allowed { may self.old m Access.Store a n ≡ true }
-        ensures { self.new ≡ with_number self.old a n v }
+        ensures after { self.new ≡ with_number self.old a n v }
+        ensures in_ram { IsRangeInRam self.old.bytes a n }
     {
         let at = self.offset(m, Access::Store, a, n);
         self.ram.put(at, n, v);

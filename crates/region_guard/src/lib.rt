@@ -5,9 +5,13 @@
 #![tactic(auto)]
 
 mod guard;
+mod laws;
 mod region;
 
 pub use guard::{AddErr, Guard};
+pub use laws::{
+    a_store_is_its_low_bytes, a_write_changes_its_bytes_alone, what_may_be_used_is_in_ram,
+};
 pub use region::{Access, Region, Rights};
 
 /// The address of the first byte of RAM.
@@ -15,3 +19,6 @@ pub const RAM_BASE: u32 = 0x8000_0000;
 
 /// How many regions there can be.
 pub const MOST_REGIONS: u8 = 64;
+
+#[cfg(test)]
+mod tests;

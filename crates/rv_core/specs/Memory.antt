@@ -1,6 +1,6 @@
 -- Memory as a hart sees it: the byte at each address, and the ranges that it may use.
-use Rattle.std.specs.Prelude.{◌≡◌, ℕ, ◌+◌, ◌/◌, ◌%◌, ◌^◌, ◌-◌, ◌==◌, ◌&&◌, nat_le, nat_lt, Bool, if◌then◌else◌, Result, Ok, Err}
-use Rattle.machine_words.specs.Number.{number_from}
+use Rattle.std.specs.Prelude.{◌≡◌, ℕ, ◌%◌, ◌==◌, Bool, if◌then◌else◌, Result, Ok, Err}
+use Rattle.machine_words.specs.Number.{number_from, after_store}
 use Rattle.rv_core.specs.declared.bus.Cause.{Cause}
 use Rattle.rv_core.specs.declared.bus.Cause.TheVariants.{FetchOutside, LoadMisaligned, LoadOutside, StoreMisaligned, StoreOutside}
 
@@ -10,11 +10,6 @@ pub record Memory : Type 0 where
   pub fetches : ℕ → ℕ → Bool
   pub loads : ℕ → ℕ → Bool
   pub stores : ℕ → ℕ → Bool
-
--- the bytes after the low n bytes of a value were put at an address, the lowest first
-abbrev pub with_number : (ℕ → ℕ) → (a n value : ℕ) → ℕ → ℕ
-with_number byte a n value x =
-    if nat_le a x && nat_lt x (a + n) then value / 256 ^ (x - a) % 256 else byte x
 
 -- what a fetch, a load and a store answer: misaligned comes before outside
 abbrev pub fetch_answer : Memory → ℕ → Result ℕ Cause
@@ -29,7 +24,7 @@ store_answer m a n = if a % n == 0 then (if m.stores a n then Ok tt else Err Sto
 
 -- the low n bytes of a value were put at an address, no other byte changed, and what may be used didn't
 pub record IsStored (old new : Memory) (a n value : ℕ) : Type 0 where
-  pub bytes : (x : ℕ) → new.byte x ≡ with_number old.byte a n value x
+  pub bytes : (x : ℕ) → new.byte x ≡ after_store old.byte a n value x
   pub fetches : (x k : ℕ) → new.fetches x k ≡ old.fetches x k
   pub loads : (x k : ℕ) → new.loads x k ≡ old.loads x k
   pub stores : (x k : ℕ) → new.stores x k ≡ old.stores x k

@@ -3,7 +3,8 @@ ghost use Rattle.std.specs.Prelude.{◌≡◌, ◌*◌, ◌/◌, ◌%◌, ◌^�
 ghost use Rattle.machine_words.specs.Bits.{signed, word_of};
 ghost use Rattle.rv_decode.specs.WellFormed.{IsWellFormed};
 ghost use Rattle.rv_core.specs.Execute.{executed, effect, writes, jumps, goes_to, branches, loads_signed, loads_unsigned, stores, sign_extended, hart_after, bus_after, Stored, out_of};
-ghost use Rattle.rv_core.specs.Hart.{with_register, advanced};
+ghost use Rattle.rv_core.specs.Hart.{advanced};
+ghost use Rattle.rv_core.specs.declared.bus.Cause.{Cause};
 ghost use Rattle.machine_words.specs.Number.{IsWidth};
 
 use crate::arithmetic::{
@@ -24,12 +25,14 @@ pub enum Out {
 }
 
 /// Executes the instruction at pc. After a call only pc changed, by 4; after a fault nothing did.
-#[tactic(auto, unfolding(crate::specs::Execute::executed))]
+#[tactic(auto, using(crate::proofs::Effects::effect_fault), unfolding(crate::specs::Execute::executed))]
 pub fn step<B: Bus>(hart: &mut Hart, bus: &mut B) -> Out
     ensures out { result ≡ out_of (executed (B.memory bus.old) hart.old) }
     ensures hart { hart.new ≡ hart_after (executed (B.memory bus.old) hart.old) hart.old }
     ensures bus { bus.new ≡ bus_after B.after_store (executed (B.memory bus.old) hart.old) bus.old }
     ensures bytes { Stored (executed (B.memory bus.old) hart.old) (B.memory bus.old) (B.memory bus.new) }
+    ensures call { result ≡ Out.Call → hart.new ≡ advanced hart.old }
+    ensures fault { (cause : Cause) → result ≡ Out.Fault cause → (hart.new ≡ hart.old) × (bus.new ≡ bus.old) }
 {
     let word = match bus.fetch(hart.pc) {
         Ok(word) => word,

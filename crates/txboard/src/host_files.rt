@@ -1,10 +1,16 @@
 //! The host's files, read whole and never written.
-ghost use Rattle.std.specs.Prelude.{◌≡◌, ◌+◌, ◌<◌, ◌≤◌, ◌^◌, None, vec_len, IfOk};
+//!
+//! What the host holds is not told; where a reader tells the bytes that it has left, the front that is read
+//! is theirs.
+ghost use Rattle.std.specs.Prelude.{◌≡◌, ◌≢◌, ◌+◌, ◌^◌, ◌<◌, ◌≤◌, None, take, vec_len, IfOk, IfErr, IfSome};
+ghost use Rattle.std.specs.Io.KnownBytes.{Consumes};
+ghost use Rattle.std.specs.IoError.{error_kind};
+ghost use Rattle.txboard.specs.HostFiles.{count_read};
 
 use board_run::{Files, ReadErr};
 use std::alloc::Global;
-use std::fs;
 use std::io::{ErrorKind, Read};
+use std::{fs, io};
 
 /// How many bytes one read asks for at most.
 const CHUNK: usize = 4096;
@@ -31,12 +37,13 @@ impl<R: std::rt::Files> Files for HostFiles<'_, R> {
 
     ghost faults = { λ files. files.faults };
 
-    fn read(&mut self, alloc: Global, name: &str, max: u32) -> Result<Vec<u8>, ReadErr> {
-        let outcome = match fs::open(self.rt, name) {
-            Ok(mut file) => read_front(alloc, &mut file, max as usize + 1),
-            Err(error) if error.kind() == ErrorKind::NotFound => Err(ReadErr::Missing),
-            Err(_) => Err(ReadErr::Failed),
-        };
+    fn read(&mut self, alloc: Global, name: &str, max: u32) -> Result<Vec<u8>, ReadErr>
+        requires { max < 2 ^ 31 }
+        ensures counted { self.old.faults ≤ self.new.faults }
+        ensures count { self.new.faults ≡ count_read self.old.faults result }
+        ensures bound { IfOk result (λ v. vec_len v ≤ max + 1) }
+    {
+        let outcome = read_named(self.rt, alloc, name, max as usize + 1);
         if let Err(ReadErr::Failed | ReadErr::Missing) = outcome {
             self.faults = self.faults.saturating_add(1);
         }
@@ -44,24 +51,56 @@ impl<R: std::rt::Files> Files for HostFiles<'_, R> {
     }
 }
 
+/// The first bytes of the file `name`, at most so many.
+fn read_named<R: std::rt::Files>(
+    rt: &R,
+    alloc: Global,
+    name: &str,
+    most: usize,
+) -> Result<Vec<u8>, ReadErr>
+    requires { most < 2 ^ 32 }
+    ensures { IfOk result (λ v. vec_len v ≤ most) }
+{
+    let mut file = fs::open(rt, name).map_err(why_not_opened)?;
+    read_front(alloc, &mut file, most)
+}
+
+/// What an error of opening a file means.
+fn why_not_opened(error: io::Error) -> ReadErr
+    ensures missing { error_kind error ≡ ErrorKind.NotFound → result ≡ ReadErr.Missing }
+    ensures failed { error_kind error ≢ ErrorKind.NotFound → result ≡ ReadErr.Failed }
+{
+    if error.kind() == ErrorKind::NotFound {
+        ReadErr::Missing
+    } else {
+        ReadErr::Failed
+    }
+}
+
 /// The first bytes of a reader, at most so many. Each turn takes a byte at least, or is the last.
 fn read_front<F: Read>(alloc: Global, reader: &mut F, most: usize) -> Result<Vec<u8>, ReadErr>
     requires { most < 2 ^ 32 }
+    ensures bound { IfOk result (λ v. vec_len v ≤ most) }
+    ensures front { IfOk result (λ v. IfSome (F.remaining reader.old) (λ xs. v.items ≡ take most xs)) }
+    ensures taken { IfOk result (λ v. Consumes (F.remaining reader.old) (F.remaining reader.new) v.items) }
+    ensures opened { IfErr result (λ e. e ≢ ReadErr.Missing) }
 {
     let mut bytes = Vec::new(alloc);
     let mut chunk = [0; CHUNK];
     while bytes.len() < most {
         let room = CHUNK.min(most - bytes.len());
-        let count = match reader.read(&mut chunk[..room]) {
-            Ok(count) => count,
-            Err(_) => return Err(ReadErr::Failed),
-        };
+        let count = reader
+            .read(&mut chunk[..room])
+            .map_err(|_| ReadErr::Failed)?;
         if count == 0 {
             break;
         }
-        if bytes.extend_from_slice(&chunk[..count]).is_err() {
-            return Err(ReadErr::NoMemory);
-        }
+        bytes
+            .extend_from_slice(&chunk[..count])
+            .map_err(|_| ReadErr::NoMemory)?;
     }
     Ok(bytes)
 }
+
+#[cfg(test)]
+mod tests;

@@ -1,5 +1,10 @@
 //! The host's standard output, written piece by piece.
-ghost use Rattle.std.specs.Prelude.{◌≡◌, ◌+◌, None};
+//!
+//! What the host takes is not told; where a writer tells the bytes that it holds, the pieces are appended
+//! to them.
+ghost use Rattle.std.specs.Prelude.{◌≡◌, ◌<◌, ◌≤◌, [], length, None, IsOk, IfOk};
+ghost use Rattle.std.specs.Io.KnownBytes.{WriteAppends};
+ghost use Rattle.txboard.specs.HostOut.{AppendsPiece, count_written};
 
 use board_run::{Sink, WriteErr};
 use std::io::Write;
@@ -14,7 +19,7 @@ pub struct HostOut<W: Write + Drop> {
 impl<W: Write + Drop> HostOut<W> {
     /// No fault so far.
     pub fn new(out: W) -> Self
-        ensures { result.faults ≡ 0 }
+        ensures { result ≡ record { out = out; faults = 0 } }
     {
         HostOut { out, faults: 0 }
     }
@@ -25,8 +30,13 @@ impl<W: Write + Drop> Sink for HostOut<W> {
 
     ghost faults = { λ sink. sink.faults };
 
-    fn write(&mut self, bytes: &[u8]) -> Result<(), WriteErr> {
-        let outcome = write_whole(&mut self.out, bytes);
+    fn write(&mut self, piece: &[u8]) -> Result<(), WriteErr>
+        ensures counted { self.old.faults ≤ self.new.faults }
+        ensures count { self.new.faults ≡ count_written self.old.faults result }
+        ensures wrote { AppendsPiece (W.contents self.old.out) (W.contents self.new.out) piece.now result }
+        ensures nothing { piece.now ≡ [] → IsOk result }
+    {
+        let outcome = write_whole(&mut self.out, piece);
         if outcome.is_err() {
             self.faults = self.faults.saturating_add(1);
         }
@@ -34,14 +44,31 @@ impl<W: Write + Drop> Sink for HostOut<W> {
     }
 }
 
-/// Writes all bytes. Each turn takes a byte at least; a writer that takes none is at fault.
-fn write_whole<W: Write>(out: &mut W, bytes: &[u8]) -> Result<(), WriteErr> {
-    let mut rest = bytes;
+/// Writes a piece whole, or a front of it where a write fails.
+#[tactic(auto, using(crate::proofs::HostOut::pieces))]
+fn write_whole<W: Write>(out: &mut W, piece: &[u8]) -> Result<(), WriteErr>
+    ensures wrote { AppendsPiece (W.contents out.old) (W.contents out.new) piece.now result }
+    ensures nothing { piece.now ≡ [] → IsOk result }
+{
+    let mut rest = piece;
     while !rest.is_empty() {
-        match out.write(rest) {
-            Ok(0) | Err(_) => return Err(WriteErr::Failed),
-            Ok(count) => rest = &rest[count..],
-        }
+        let count = write_some(out, rest)?;
+        rest = &rest[count..];
     }
     Ok(())
 }
+
+/// How many bytes of a piece one write took, one at least. A writer that takes none is at fault.
+fn write_some<W: Write>(out: &mut W, piece: &[u8]) -> Result<usize, WriteErr>
+    ensures some { IfOk result (λ n. 0 < n) }
+    ensures within { IfOk result (λ n. n ≤ length piece.now) }
+    ensures wrote { WriteAppends (W.contents out.old) (W.contents out.new) result piece.now }
+{
+    match out.write(piece) {
+        Ok(0) | Err(_) => Err(WriteErr::Failed),
+        Ok(count) => Ok(count),
+    }
+}
+
+#[cfg(test)]
+mod tests;

@@ -1,4 +1,6 @@
 //! Worked runs of `hart` from the words to the bytes, and each other way in which a call ends.
+//!
+//! The read and the write behind the last that is due are to fail, which shows that none is made.
 use super::board_still;
 use crate::{MemFiles, MemSink, Status};
 use std::alloc::{AllocError, Global};
@@ -31,8 +33,11 @@ const USAGE: &str =
     "usage: txboard hart IMAGE N | check BOARD | replay BOARD LOG | run BOARD | gen SEED\n";
 
 /// The registers of the start thread, and those after its first instruction.
-const OPENING: &str = "regs 00000000 800001e0 800000a0 00000000 00000000 00000000 00000000 00000000 00000000 80000080 00000000 00000000 00000000 00000000 00000000 00000000 00000000 00000000 00000000 00000000 00000000 00000000 00000000 00000000 00000000 00000000 00000000 00000000 00000000 00000000 00000000\n";
-const AFTER_ADDI: &str = "regs 00000000 800001e0 800000a0 00000000 00000007 00000000 00000000 00000000 00000000 80000080 00000000 00000000 00000000 00000000 00000000 00000000 00000000 00000000 00000000 00000000 00000000 00000000 00000000 00000000 00000000 00000000 00000000 00000000 00000000 00000000 00000000\n";
+const OPENING: &str =
+    "regs 00000000 800001e0 800000a0 00000000 00000000 00000000 00000000 00000000 00000000 80000080 00000000 00000000 00000000 00000000 00000000 00000000 00000000 00000000 00000000 00000000 00000000 00000000 00000000 00000000 00000000 00000000 00000000 00000000 00000000 00000000 00000000\n";
+
+const AFTER_ADDI: &str =
+    "regs 00000000 800001e0 800000a0 00000000 00000007 00000000 00000000 00000000 00000000 80000080 00000000 00000000 00000000 00000000 00000000 00000000 00000000 00000000 00000000 00000000 00000000 00000000 00000000 00000000 00000000 00000000 00000000 00000000 00000000 00000000 00000000\n";
 
 /// An image of a preamble, sixteen words that are ignored, and code.
 fn image(alloc: Global, head: [u32; 16], code: &[u32]) -> Result<Vec<u8>, AllocError> {
@@ -73,19 +78,59 @@ fn runs_are_printed(rt: HostRuntime) -> Result<(), Fail> {
     let one: &[u32] = &[ADDI_X5_X0_7];
     let call: &[u32] = &[ADDI_X5_X0_7, 0x0000_0073];
     let branch: &[u32] = &[ADDI_X5_X0_7, 0x0000_0063];
+    let jump: &[u32] = &[0x0000_006F];
+    let illegal: &[u32] = &[0x0000_0000];
     let rows = [
-        (one, "1", "hart steps 1 end count\npc 80000084\n", AFTER_ADDI),
+        (
+            one,
+            "1",
+            "hart steps 1 end count\npc 80000084\n",
+            AFTER_ADDI,
+        ),
         (one, "0", "hart steps 0 end count\npc 80000080\n", OPENING),
-        (one, "2", "hart steps 1 end fault 1\npc 80000084\n", AFTER_ADDI),
-        (call, "1", "hart steps 1 end count\npc 80000084\n", AFTER_ADDI),
-        (call, "2", "hart steps 1 end call\npc 80000084\n", AFTER_ADDI),
-        (branch, "2", "hart steps 1 end unbuilt\npc 80000084\n", AFTER_ADDI),
+        (
+            one,
+            "2",
+            "hart steps 1 end fault 1\npc 80000084\n",
+            AFTER_ADDI,
+        ),
+        (
+            call,
+            "1",
+            "hart steps 1 end count\npc 80000084\n",
+            AFTER_ADDI,
+        ),
+        (
+            call,
+            "2",
+            "hart steps 1 end call\npc 80000084\n",
+            AFTER_ADDI,
+        ),
+        (
+            branch,
+            "2",
+            "hart steps 2 end count\npc 80000084\n",
+            AFTER_ADDI,
+        ),
+        (jump, "3", "hart steps 3 end count\npc 80000080\n", OPENING),
+        (
+            illegal,
+            "3",
+            "hart steps 0 end fault 2\npc 80000080\n",
+            OPENING,
+        ),
     ];
     for (code, most, first, last) in rows {
         let mut head = HEAD;
         head[14] = if code.len() == 1 { 132 } else { 136 };
         let file = image(alloc, head, code)?;
-        let (status, sink) = called(alloc, &["hart", "p", most], file, vec![in alloc]?, (0, 0))?;
+        let (status, sink) = called(
+            alloc,
+            &["hart", "p", most],
+            file,
+            vec![in alloc; 2]?,
+            (4, 0),
+        )?;
         assert_eq!(rt; status, Status::Done, "{first}");
         let text = format!(in alloc; "{first}{last}")?;
         assert_eq!(rt; sink.bytes(), text.as_bytes(), "{first}");
@@ -109,7 +154,7 @@ fn refused_images_have_their_line(rt: HostRuntime) -> Result<(), Fail> {
         (large, "refused image 0 too large\n"),
     ]?;
     for (file, line) in rows {
-        let (status, sink) = called(alloc, &["hart", "p", "1"], file, vec![in alloc]?, (0, 0))?;
+        let (status, sink) = called(alloc, &["hart", "p", "1"], file, vec![in alloc; 2]?, (2, 0))?;
         assert_eq!(rt; status, Status::Refused, "{line}");
         assert_eq!(rt; sink.bytes(), line.as_bytes(), "{line}");
     }
@@ -134,7 +179,7 @@ fn other_words_are_usage(rt: HostRuntime) -> Result<(), Fail> {
         &["--version"],
     ];
     for words in lists {
-        let (status, sink) = called(alloc, words, vec![in alloc]?, vec![in alloc]?, (0, 0))?;
+        let (status, sink) = called(alloc, words, vec![in alloc]?, vec![in alloc; 1]?, (2, 0))?;
         assert_eq!(rt; status, Status::Usage, "{words:?}");
         assert_eq!(rt; sink.bytes(), USAGE.as_bytes(), "{words:?}");
     }

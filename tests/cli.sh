@@ -1,0 +1,258 @@
+#!/usr/bin/env bash
+# The command line on real files: what the built program writes and how it ends, against text that was
+# written by hand. A case that fails prints a line; the last line counts the cases.
+set -u
+export LC_ALL=C
+top=$(cd "$(dirname "${BASH_SOURCE[0]}")/.." && pwd)
+txboard=$top/crates/txboard/out/txboard
+p1=$top/examples/p1.img
+passed=0 failed=0
+work=$(mktemp -d) || exit 1
+trap 'rm -rf "$work"' EXIT
+
+# expect NAME STATUS TEXT COMMAND..: the command ends with the status, writes the text (its last newline is
+# left out here) to standard output, and nothing to standard error
+expect() {
+    local name=$1 status=$2 text=$3 got
+    shift 3
+    "$@" >"$work/out" 2>"$work/err" </dev/null
+    got=$?
+    printf '%s' "${text:+$text$'\n'}" >"$work/want"
+    if [ "$got" -eq "$status" ] && cmp -s "$work/out" "$work/want" && [ ! -s "$work/err" ]; then
+        passed=$((passed + 1))
+    else
+        failed=$((failed + 1))
+        printf 'FAILED %s: status %s, due is %s; wrote %q, and as an error %q\n' "${name//$'\n'/ }" "$got" "$status" \
+            "$(head -c 400 "$work/out")" "$(head -c 200 "$work/err")"
+    fi
+}
+
+skipped() { printf 'skipped: %s\n' "$1"; }
+
+# the program is built on first use; without words it prints its usage
+"$top/txboard" >"$work/usage" </dev/null
+if [ ! -x "$txboard" ]; then
+    echo "FAILED: the program was not built"
+    echo "0 passed, 1 failed"
+    exit 1
+fi
+
+# ---- The text of `hart`
+
+zeros4='00000000 00000000 00000000 00000000'
+# hart_text STEPS END PC X5 [SP GP]: all other registers are 0, but x10 is the start entry at 80000080
+hart_text() {
+    printf 'hart steps %s end %s\npc %s\n' "$1" "$2" "$3"
+    printf 'regs 00000000 %s %s 00000000 %s %s 80000080 %s %s %s %s %s 00000000' \
+        "${5:-800001e0}" "${6:-800000a0}" "$4" "$zeros4" "$zeros4" "$zeros4" "$zeros4" "$zeros4" "$zeros4"
+}
+p1_text=$(hart_text 1 count 80000084 00000007)
+
+expect 'p1: one step' 0 "$p1_text" "$txboard" hart "$p1" 1
+expect 'p1: no step' 0 "$(hart_text 0 count 80000080 00000000)" "$txboard" hart "$p1" 0
+expect 'p1: past its code' 0 "$(hart_text 1 'fault 1' 80000084 00000007)" "$txboard" hart "$p1" 2
+expect 'p1: the most steps' 0 "$(hart_text 1 'fault 1' 80000084 00000007)" "$txboard" hart "$p1" 100000000
+expect 'p2: up to its call' 0 "$p1_text" "$txboard" hart "$top/examples/p2.img" 1
+expect 'p2: its call' 0 "$(hart_text 1 call 80000084 00000007)" "$txboard" hart "$top/examples/p2.img" 2
+expect 'p2b: up to its branch' 0 "$p1_text" "$txboard" hart "$top/examples/p2b.img" 1
+expect 'p2b: its branch' 0 "$(hart_text 2 count 80000084 00000007)" "$txboard" hart "$top/examples/p2b.img" 2
+
+# ---- Images: each rule of the preamble, just broken and just kept
+
+# image FIELD=HEX..: p1's preamble with these words changed, and then its one instruction
+image() {
+    local -A words=([id]=4d4f4455 [major]=6 [minor]=0 [words]=20 [app]=1 [props]=3 [shell]=80 [start]=80
+        [stop]=0 [start_prio]=a [start_stack]=100 [callback]=0 [callback_prio]=0 [callback_stack]=0
+        [code_size]=84 [data_size]=40)
+    local change field
+    for change in "$@"; do words[${change%%=*}]=${change#*=}; done
+    for field in id major minor words app props shell start stop start_prio start_stack callback \
+        callback_prio callback_stack code_size data_size; do
+        word "${words[$field]}"
+    done
+    for ((field = 0; field < 16; field++)); do word 0; done
+    word 00700293
+}
+# word HEX: its four bytes, the lowest first
+word() {
+    local bytes
+    printf -v bytes '\\x%02x\\x%02x\\x%02x\\x%02x' \
+        $((0x$1 & 255)) $((0x$1 >> 8 & 255)) $((0x$1 >> 16 & 255)) $((0x$1 >> 24 & 255))
+    printf "$bytes"
+}
+
+image >"$work/made.img"
+expect 'the images made here begin as p1' 0 '' cmp "$work/made.img" "$p1"
+
+while IFS='|' read -r changes line; do
+    image $changes >"$work/made.img"
+    expect "refused: $changes" 3 "refused image 0: $line" "$txboard" hart "$work/made.img" 1
+done <<'ROWS'
+id=4d4f4456 major=9|BadId 4d4f4456
+id=5544f4d4|BadId 5544f4d4
+major=0|BadMajor 00000000
+major=7|BadMajor 00000007
+words=1f|BadSize 0000001f
+props=1|BadProps 00000001
+props=fffffffd|BadProps fffffffd
+code_size=80|BadCode 00000080
+code_size=88|BadCode 00000088
+code_size=85|BadCode 00000085
+data_size=100001|BadData 00100001
+shell=7c|BadEntry 0 0000007c
+shell=82|BadEntry 0 00000082
+shell=400|BadEntry 0 00000400
+start=84|BadEntry 1 00000084
+stop=7c|BadEntry 2 0000007c
+callback=81|BadEntry 3 00000081
+start_prio=20|BadPrio 0 00000020
+callback=80 callback_stack=100 callback_prio=20|BadPrio 1 00000020
+start_stack=3f|BadStack 0 0000003f
+start_stack=10001|BadStack 0 00010001
+callback=80 callback_stack=3f|BadStack 1 0000003f
+callback=80 callback_stack=10001|BadStack 1 00010001
+shell=0 start_prio=20 start_stack=0|BadEntry 0 00000000
+ROWS
+
+while IFS='|' read -r changes sp; do
+    image $changes >"$work/made.img"
+    expect "run: $changes" 0 "$(hart_text 1 count 80000084 00000007 "$sp")" "$txboard" hart "$work/made.img" 1
+done <<'ROWS'
+major=1 minor=ffffffff app=ffffffff props=ffffffff|800001e0
+stop=80 start_prio=1f|800001e0
+callback=80 callback_prio=1f callback_stack=10000|800001e0
+callback_prio=20 callback_stack=1|800001e0
+data_size=0|800001a0
+data_size=100000|801001a0
+start_stack=40|80000120
+start_stack=41|80000130
+start_stack=10000|800100e0
+ROWS
+
+{ image code_size=85; printf '\0'; } >"$work/made.img"
+expect 'a length that 4 does not divide' 3 'refused image 0: BadCode 00000085' "$txboard" hart "$work/made.img" 1
+{ image code_size=100000; head -c $((0x100000 - 132)) /dev/zero; } >"$work/made.img"
+expect 'the largest image' 0 "$(hart_text 1 count 80000084 00000007 80100140 80100000)" \
+    "$txboard" hart "$work/made.img" 1
+printf '\0' >>"$work/made.img"
+expect 'one byte more' 3 'refused image 0 too large' "$txboard" hart "$work/made.img" 1
+head -c 127 "$p1" >"$work/made.img"
+expect 'one byte too short' 3 'refused image 0: Short 127' "$txboard" hart "$work/made.img" 1
+: >"$work/made.img"
+expect 'an empty file' 3 'refused image 0: Short 0' "$txboard" hart "$work/made.img" 1
+expect 'a device that ends at once' 3 'refused image 0: Short 0' "$txboard" hart /dev/null 1
+expect 'a device without end' 3 'refused image 0 too large' "$txboard" hart /dev/zero 1
+
+# ---- Files that can't be read
+
+long=$(head -c 100000 /dev/zero | tr '\0' a)
+expect 'no such file' 2 '' "$txboard" hart "$work/none.img" 1
+expect 'no such folder' 2 '' "$txboard" hart "$work/none/p1.img" 1
+expect 'a folder' 2 '' "$txboard" hart "$work" 1
+expect 'below a file' 2 '' "$txboard" hart "$p1/p1.img" 1
+expect 'an empty name' 2 '' "$txboard" hart '' 1
+expect 'a name of 100,000 bytes' 2 '' "$txboard" hart "$long" 1
+
+# permission doesn't bind root, who runs the case as nobody
+cp "$txboard" "$work/txboard" && cp "$p1" "$work/secret.img" && chmod 755 "$work" && chmod 0 "$work/secret.img"
+as_other=()
+if [ -r "$work/secret.img" ]; then as_other=(setpriv --reuid=65534 --regid=65534 --clear-groups); fi
+if "${as_other[@]}" "$work/txboard" </dev/null >"$work/out" 2>&1; [ $? -eq 1 ]; then
+    expect 'a file without permission' 2 '' "${as_other[@]}" "$work/txboard" hart "$work/secret.img" 1
+else
+    skipped 'a file without permission: this is root, and setpriv cannot make it nobody'
+fi
+
+# a pipe gives what is there, so the image comes in two short reads
+in_two_parts() {
+    { head -c 50 "$p1"; sleep 0.1; tail -c +51 "$p1"; } | "$txboard" hart /dev/stdin 1
+}
+if [ -e /dev/stdin ]; then
+    expect 'a pipe with two short reads' 0 "$p1_text" in_two_parts
+else
+    skipped 'a pipe with two short reads: there is no /dev/stdin'
+fi
+
+# ---- Outputs that can't be written
+
+to_full() { "$txboard" "$@" >/dev/full; }
+to_none() { "$txboard" "$@" >&-; }
+with_output_alone() { "$txboard" "$@" <&- 2>&-; }
+first_line() { "$txboard" "$@" | head -n 1; [ "${PIPESTATUS[0]}" -eq 0 ] || [ "${PIPESTATUS[0]}" -eq 4 ]; }
+# the reader of the fifo has gone before the program begins
+to_gone() {
+    rm -f "$work/fifo" && mkfifo "$work/fifo" || return
+    (exec 3<"$work/fifo") &
+    exec 4>"$work/fifo"
+    wait $!
+    "$txboard" "$@" >&4 4>&-
+    local status=$?
+    exec 4>&-
+    return "$status"
+}
+if [ -w /dev/full ]; then
+    expect 'a full device: the text' 4 '' to_full hart "$p1" 1
+    expect 'a full device: the usage line' 4 '' to_full
+    expect 'a full device: a refusal' 4 '' to_full hart /dev/null 1
+else
+    skipped 'a full device: there is no /dev/full'
+fi
+expect 'a closed output: the text' 4 '' to_none hart "$p1" 1
+expect 'a closed output: the usage line' 4 '' to_none
+expect 'a closed output: a refusal' 4 '' to_none hart /dev/null 1
+expect 'a closed output, and nothing to write' 2 '' to_none hart "$work/none.img" 1
+expect 'a reader that has gone: the text' 4 '' to_gone hart "$p1" 1
+expect 'a reader that has gone: the usage line' 4 '' to_gone
+expect 'a reader of one line' 0 'hart steps 1 end count' first_line hart "$p1" 1
+expect 'no standard input and no standard error' 0 "$p1_text" with_output_alone hart "$p1" 1
+
+# ---- Words
+
+usage='usage: txboard hart IMAGE N | check BOARD | replay BOARD LOG | run BOARD | gen SEED'
+is_usage() { expect "words: $*" 1 "$usage" "$txboard" "$@"; }
+is_usage
+is_usage ''
+is_usage --help
+is_usage --version
+is_usage hart
+is_usage Hart "$p1" 1
+is_usage hart "$p1"
+is_usage hart "$p1" 1 1
+is_usage hart "$work/none.img" x
+is_usage ' hart' "$p1" 1
+is_usage check board.toml
+is_usage replay board.toml log
+is_usage run board.toml
+is_usage gen 1
+for number in '' ' 1' '1 ' 01 00 +1 -1 -0 1x 0x1 1.0 1e3 100000001 4294967297 18446744073709551617 $'1\n' '１'; do
+    is_usage hart "$p1" "$number"
+done
+expect 'words: a number of 100,000 digits' 1 "$usage" "$txboard" hart "$p1" "${long//a/1}"
+expect 'words: no text as a name' 1 "$usage" "$txboard" hart $'\xff' 1
+expect 'words: no text behind the others' 1 "$usage" "$txboard" hart "$p1" 1 $'p1\xc3\x28'
+
+# ---- The wrapper: relative names are those of the caller, and words stay whole
+
+mkdir "$work/a folder" && cp "$p1" "$work/a folder/an image.img"
+from() { (cd "$1" && shift && "$@"); }
+expect 'a relative name' 0 "$p1_text" from "$top/examples" "$txboard" hart p1.img 1
+expect 'wrapper: a relative name' 0 "$p1_text" from "$work/a folder" "$top/txboard" hart '../a folder/an image.img' 1
+expect 'wrapper: called by a relative name' 0 "$p1_text" from "$top/tests" ../txboard hart ../examples/p1.img 1
+expect 'wrapper: a name with spaces' 0 "$p1_text" from "$work/a folder" "$top/txboard" hart 'an image.img' 1
+expect 'wrapper: a star' 2 '' from "$work/a folder" "$top/txboard" hart '*' 1
+expect 'wrapper: an empty word' 1 "$usage" "$top/txboard" hart "$p1" 1 ''
+expect 'wrapper: no words' 1 "$usage" "$top/txboard"
+
+# ---- The files of the repository
+
+expect 'the stored run has the image of examples/' 0 '' cmp "$top/crates/txboard/data/p1.img" "$p1"
+if command -v python3 >"$work/out"; then
+    mkdir "$work/examples" && cp "$top/examples/images.py" "$work/examples"
+    expect 'examples/images.py' 0 '' python3 "$work/examples/images.py"
+    expect 'it writes the images of examples/' 0 '' diff -r "$top/examples" "$work/examples"
+else
+    skipped 'the images of examples/: there is no python3'
+fi
+
+echo "$passed passed, $failed failed"
+[ "$failed" -eq 0 ]
