@@ -51,7 +51,7 @@ class Program:
         return random.choice([r for r in range(1, 32) if r not in self.kept])
 
     def computing(self):
-        kind = random.randrange(10)
+        kind = random.randrange(12)
         rd, a, b = self.rd(), random.randrange(32), random.randrange(32)
         if kind < 5:
             return [f"{random.choice(REGISTER)} x{rd}, x{a}, x{b}"]
@@ -62,7 +62,14 @@ class Program:
             return [f"{random.choice(SHIFT)} x{rd}, x{a}, {random.choice([0, 31, random.randrange(32)])}"]
         if kind < 9:
             return [f"{random.choice(['lui', 'auipc'])} x{rd}, {random.randrange(2**20)}"]
-        return [random.choice(["fence", "fence r, w", "nop"])]
+        if kind < 10:
+            return [random.choice(["fence", "fence r, w", "nop"])]
+        a, b = self.address(), self.address()
+        return [
+            f"li x{a}, {random.choice(EDGES)}",
+            f"li x{b}, {random.choice(EDGES)}",
+            f"{random.choice(REGISTER)} x{rd}, x{a}, x{b}",
+        ]
 
     def memory(self):
         name = random.choice(list(WIDTH))

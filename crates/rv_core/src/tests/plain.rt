@@ -1,8 +1,8 @@
 //! A plain bus: twelve bytes from an address on, for any use.
 ghost use Rattle.std.specs.Prelude.{◌≡◌, ℕ, ◌+◌, ◌-◌, ◌≤◌, ◌&&◌, nat_le, length, map, slice_index, if◌then◌else◌};
 ghost use Rattle.std.specs.List.{range_with_len};
-ghost use Rattle.machine_words.specs.Number.{IsWidth, number_from};
-ghost use Rattle.rv_core.specs.Memory.{Memory, with_number};
+ghost use Rattle.machine_words.specs.Number.{IsWidth, number_from, after_store as bytes_after};
+ghost use Rattle.rv_core.specs.Memory.{Memory};
 
 use crate::{Bus, Cause};
 
@@ -43,7 +43,7 @@ impl Bus for Plain {
     } };
 
     ghost after_store = { λ bus a n value. record bus {
-      bytes = map (with_number (slice_index bus.bytes) (a - bus.base) n value) (range_with_len 0 12);
+      bytes = map (bytes_after (slice_index bus.bytes) (a - bus.base) n value) (range_with_len 0 12);
     } };
 
     fn fetch(&self, a: u32) -> Result<u32, Cause> {
@@ -95,7 +95,7 @@ fn number(bytes: &[u8], at: usize, n: u32) -> u32
 /// Puts the low n bytes of a value from a place on, the lowest first.
 fn put_number(bytes: &mut [u8], at: usize, n: u32, value: u32)
     requires { at + n ≤ length bytes.old }
-    ensures { (k : ℕ) → slice_index bytes.new k ≡ with_number (slice_index bytes.old) at n value k }
+    ensures { (k : ℕ) → slice_index bytes.new k ≡ bytes_after (slice_index bytes.old) at n value k }
 {
     if n > 0 {
         bytes[at] = (value % 0x100) as u8;
