@@ -4,3 +4,6 @@
 mod bus;
 
 pub use bus::GuardBus;
+
+#[cfg(test)]
+mod tests;
