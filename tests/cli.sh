@@ -59,8 +59,8 @@ expect 'p2b: its branch' 0 "$(hart_text 2 count 80000084 00000007)" "$txboard" h
 
 # ---- Images: each rule of the preamble, just broken and just kept
 
-# image FIELD=HEX..: p1's preamble with these words changed, and then its one instruction
-image() {
+# preamble FIELD=HEX..: p1's preamble with these words changed
+preamble() {
     local -A words=([id]=4d4f4455 [major]=6 [minor]=0 [words]=20 [app]=1 [props]=3 [shell]=80 [start]=80
         [stop]=0 [start_prio]=a [start_stack]=100 [callback]=0 [callback_prio]=0 [callback_stack]=0
         [code_size]=84 [data_size]=40)
@@ -71,7 +71,15 @@ image() {
         word "${words[$field]}"
     done
     for ((field = 0; field < 16; field++)); do word 0; done
-    word 00700293
+}
+# image FIELD=HEX..: the same, and then p1's one instruction
+image() { preamble "$@"; word 00700293; }
+# coded 'HEX..' FIELD=HEX..: the preamble with the size of this code, and then the code
+coded() {
+    local code=($1) instruction size
+    printf -v size '%x' $((128 + 4 * ${#code[@]}))
+    preamble code_size="$size" "${@:2}"
+    for instruction in "${code[@]}"; do word "$instruction"; done
 }
 # word HEX: its four bytes, the lowest first
 word() {
@@ -142,6 +150,99 @@ expect 'one byte too short' 3 'refused image 0: Short 127' "$txboard" hart "$wor
 expect 'an empty file' 3 'refused image 0: Short 0' "$txboard" hart "$work/made.img" 1
 expect 'a device that ends at once' 3 'refused image 0: Short 0' "$txboard" hart /dev/null 1
 expect 'a device without end' 3 'refused image 0 too large' "$txboard" hart /dev/zero 1
+
+# ---- The edges of the regions
+
+# The data region of these images is 800000a0 up to 800001e0: gp (x3) is its base and sp (x2) its end, behind
+# which a callback's stack lies where there is a callback. The code begins at 80000080; 73 is ECALL, and 13 does
+# nothing. A row: what it is, the changes of the preamble, the code, the steps, the end, pc, x5, and sp where it
+# is another.
+while IFS='|' read -r name changes code steps end pc x5 sp; do
+    coded "$code" $changes >"$work/made.img"
+    expect "edge: $name" 0 "$(hart_text "$steps" "$end" "$pc" "$x5" "$sp")" "$txboard" hart "$work/made.img" 9
+done <<'ROWS'
+the first byte: sb, lb||18000293 00518023 00018283 73|3|call|8000008c|ffffff80
+the first byte: sb, lbu||18000293 00518023 0001c283 73|3|call|8000008c|00000080
+the first half: sh, lh||123482b7 00519023 00019283 73|3|call|8000008c|ffff8000
+the first half: sh, lhu||123482b7 00519023 0001d283 73|3|call|8000008c|00008000
+the first word: sw, lw||89abd2b7 0051a023 00000293 0001a283 73|4|call|80000090|89abd000
+the first word: sw, and lb of its last byte||89abd2b7 0051a023 00318283 73|3|call|8000008c|ffffff89
+the last byte: sb, lb||18000293 fe510fa3 fff10283 73|3|call|8000008c|ffffff80
+the last byte: sb, lbu||18000293 fe510fa3 fff14283 73|3|call|8000008c|00000080
+the last half: sh, lh||123482b7 fe511f23 ffe11283 73|3|call|8000008c|ffff8000
+the last half: sh, lhu||123482b7 fe511f23 ffe15283 73|3|call|8000008c|00008000
+the last word: sw, lw||89abd2b7 fe512e23 00000293 ffc12283 73|4|call|80000090|89abd000
+the last word: sb of its last byte, lw||18000293 fe510fa3 ffc12283 73|3|call|8000008c|80000000
+one before: lb||fff18283|0|fault 5|80000080|00000000
+one before: lhu, misaligned||fff1d283|0|fault 4|80000080|00000000
+one before: lh||ffe19283|0|fault 5|80000080|00000000
+one before: lw, misaligned||ffe1a283|0|fault 4|80000080|00000000
+one before: lw||ffc1a283|0|fault 5|80000080|00000000
+one before: sb||fe518fa3|0|fault 7|80000080|00000000
+one before: sh, misaligned||fe519fa3|0|fault 6|80000080|00000000
+one before: sh||fe519f23|0|fault 7|80000080|00000000
+one before: sw, misaligned||fe51af23|0|fault 6|80000080|00000000
+one before: sw||fe51ae23|0|fault 7|80000080|00000000
+one past: lb||00010283|0|fault 5|80000080|00000000
+one past: lbu||00014283|0|fault 5|80000080|00000000
+one past: lh||00011283|0|fault 5|80000080|00000000
+one past: lhu||00015283|0|fault 5|80000080|00000000
+one past: lw||00012283|0|fault 5|80000080|00000000
+one past: lh, half in, misaligned||fff11283|0|fault 4|80000080|00000000
+one past: lw, half in, misaligned||ffe12283|0|fault 4|80000080|00000000
+one past: lw, all out, misaligned||00112283|0|fault 4|80000080|00000000
+one past: sb||00510023|0|fault 7|80000080|00000000
+one past: sh||00511023|0|fault 7|80000080|00000000
+one past: sw||00512023|0|fault 7|80000080|00000000
+one past: sh, half in, misaligned||fe511fa3|0|fault 6|80000080|00000000
+one past: sw, half in, misaligned||fe512f23|0|fault 6|80000080|00000000
+a callback: the last byte|callback=80 callback_stack=40|18000293 02510fa3 03f10283 73|3|call|8000008c|ffffff80
+a callback: lb past it|callback=80 callback_stack=40|04010283|0|fault 5|80000080|00000000
+a callback's stack of 41: the last word|callback=80 callback_stack=41|04c12283|1|fault 1|80000084|00000000
+a callback's stack of 41: sw past it|callback=80 callback_stack=41|04512823|0|fault 7|80000080|00000000
+no callback, and so no stack for it|callback_stack=40|00012283|0|fault 5|80000080|00000000
+a stack of 41: sw to its last word|start_stack=41|fe512e23|1|fault 1|80000084|00000000|80000130
+a stack of 41: lb past it|start_stack=41|00010283|0|fault 5|80000080|00000000|80000130
+most stack: last byte|callback=80 callback_stack=10000|000102b7 002282b3 fff28283|3|fault 1|8000008c|00000000
+most stack: past it|callback=80 callback_stack=10000|000102b7 002282b3 00028283|2|fault 5|80000088|800101e0
+the most data: sw to its last word|data_size=100000|fe512e23|1|fault 1|80000084|00000000|801001a0
+the most data: lb past it|data_size=100000|00010283|0|fault 5|80000080|00000000|801001a0
+no data: sb to its first byte|data_size=0|00518023|1|fault 1|80000084|00000000|800001a0
+no data: lb before it|data_size=0|fff18283|0|fault 5|80000080|00000000|800001a0
+the code: lw of its first instruction||fe01a283|1|fault 1|80000084|fe01a283
+the code: lhu of its first instruction||fe01d283|1|fault 1|80000084|0000d283
+the code: lbu of its last byte||fe31c283|1|fault 1|80000084|000000fe
+the code: lb past it||fe418283|0|fault 5|80000080|00000000
+the code: lw past it||fe41a283|0|fault 5|80000080|00000000
+the code: lw of the image's first word||f601a283|1|fault 1|80000084|4d4f4455
+the code: lb before the image||f5f18283|0|fault 5|80000080|00000000
+the code: lw before the image||f5c1a283|0|fault 5|80000080|00000000
+the code: sb to its last byte||fe5181a3|0|fault 7|80000080|00000000
+the code: sh to its first instruction||fe519023|0|fault 7|80000080|00000000
+the code: sw to its first instruction||fe51a023|0|fault 7|80000080|00000000
+the code: sw to its first instruction, misaligned||fe51a0a3|0|fault 6|80000080|00000000
+the code: sw to the image's first word||f651a023|0|fault 7|80000080|00000000
+code up to the data: lbu of its last byte||13 13 13 13 13 13 13 fff1c283|8|fault 1|800000a0|000000ff
+code up to the data: sb to its last byte||13 13 13 13 13 13 13 fe518fa3|7|fault 7|8000009c|00000000
+the last address: lb||fff00283|0|fault 5|80000080|00000000
+the last address: lhu, misaligned||fff05283|0|fault 4|80000080|00000000
+the last address: lw that wraps, misaligned||ffd02283|0|fault 4|80000080|00000000
+the last address: lw||ffc02283|0|fault 5|80000080|00000000
+the last address: sb||fe500fa3|0|fault 7|80000080|00000000
+the last address: sh, misaligned||fe501fa3|0|fault 6|80000080|00000000
+the last address: sw that wraps, misaligned||fe502f23|0|fault 6|80000080|00000000
+the last address: sw||fe502e23|0|fault 7|80000080|00000000
+the address 0: lw||00002283|0|fault 5|80000080|00000000
+the address 0: sw||00502023|0|fault 7|80000080|00000000
+the last byte of RAM: lbu||804002b7 fff2c283|1|fault 5|80000084|80400000
+the end of RAM: sw||804002b7 0052a023|1|fault 7|80000084|80400000
+a jump to the data||00018067|1|fault 1|800000a0|00000000
+a jump into an instruction||fe218067|0|fault 0|80000080|00000000
+a jump to the image's first word||f6018067|1|fault 2|80000000|00000000
+a jump before the image||f5c18067|1|fault 1|7ffffffc|00000000
+a jump to the last address||ffc00067|1|fault 1|fffffffc|00000000
+a jump to the address 0||00000067|1|fault 1|00000000|00000000
+ROWS
 
 # ---- Files that can't be read
 
