@@ -279,7 +279,12 @@ fi
 to_full() { "$txboard" "$@" >/dev/full; }
 to_none() { "$txboard" "$@" >&-; }
 with_output_alone() { "$txboard" "$@" <&- 2>&-; }
-first_line() { "$txboard" "$@" | head -n 1; [ "${PIPESTATUS[0]}" -eq 0 ] || [ "${PIPESTATUS[0]}" -eq 4 ]; }
+# the reader may have gone before the program's last write, or not
+first_line() {
+    "$txboard" "$@" | head -n 1
+    local status=${PIPESTATUS[0]}
+    [ "$status" -eq 0 ] || [ "$status" -eq 4 ]
+}
 # the reader of the fifo has gone before the program begins
 to_gone() {
     rm -f "$work/fifo" && mkfifo "$work/fifo" || return
