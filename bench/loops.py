@@ -1,0 +1,120 @@
+#!/usr/bin/env python3
+"""Writes the images of three loops into a folder: loops.py FOLDER. Each loop runs for ever."""
+import pathlib
+import struct
+import sys
+
+# The preamble of examples/images.py, with more data.
+HEAD = [0x4D4F4455, 6, 0, 32, 1, 3, 128, 128, 0, 10, 256, 0, 0, 0]
+DATA_SIZE = 4096
+
+# Registers: gp is the base of the data; the others are named by their use below.
+ZERO, GP, A, B, C, D, E, F = 0, 3, 5, 6, 7, 28, 29, 30
+
+
+def register(funct7, funct3, rd, rs1, rs2):
+    """An operation of two registers."""
+    return funct7 << 25 | rs2 << 20 | rs1 << 15 | funct3 << 12 | rd << 7 | 0x33
+
+
+def immediate(funct3, rd, rs1, imm):
+    """An operation of a register and an immediate."""
+    return (imm & 0xFFF) << 20 | rs1 << 15 | funct3 << 12 | rd << 7 | 0x13
+
+
+def load(funct3, rd, rs1, imm):
+    return (imm & 0xFFF) << 20 | rs1 << 15 | funct3 << 12 | rd << 7 | 0x03
+
+
+def store(funct3, rs2, rs1, imm):
+    return (imm >> 5 & 0x7F) << 25 | rs2 << 20 | rs1 << 15 | funct3 << 12 | (imm & 0x1F) << 7 | 0x23
+
+
+def branch(funct3, rs1, rs2, imm):
+    return (
+        (imm >> 12 & 1) << 31 | (imm >> 5 & 0x3F) << 25 | rs2 << 20 | rs1 << 15
+        | funct3 << 12 | (imm >> 1 & 0xF) << 8 | (imm >> 11 & 1) << 7 | 0x63
+    )
+
+
+def upper(rd, imm):
+    """LUI."""
+    return imm << 12 | rd << 7 | 0x37
+
+
+def addi(rd, rs1, imm):
+    return immediate(0, rd, rs1, imm)
+
+
+def looped(before, body):
+    """Code that runs the body again and again, by a branch that is always taken."""
+    return before + body + [branch(0, ZERO, ZERO, -4 * len(body))]
+
+
+# Sums, exclusive ors and shifts of three registers: a counter, and two that are mixed with it.
+ARITHMETIC = looped(
+    [upper(B, 0x9E378), addi(B, B, -1607)],
+    [
+        addi(A, A, 1),
+        register(0x00, 0, C, C, A),  # add
+        immediate(1, D, C, 13),  # slli
+        register(0x00, 4, C, C, D),  # xor
+        immediate(5, D, C, 17),  # srli
+        register(0x00, 4, C, C, D),  # xor
+        immediate(1, D, C, 5),  # slli
+        register(0x00, 4, C, C, D),  # xor
+        register(0x00, 0, E, E, C),  # add
+        register(0x20, 0, F, E, B),  # sub
+        branch(1, A, ZERO, 4),  # bne to the next instruction
+    ],
+)
+
+# A walk over 2,048 bytes of the data: a word is loaded, changed and stored, and a half and a byte beside it.
+MEMORY = looped(
+    [],
+    [
+        register(0x00, 0, B, GP, A),  # add: the address
+        load(2, C, B, 0),  # lw
+        addi(C, C, 3),
+        store(2, C, B, 0),  # sw
+        load(1, D, B, 2),  # lh
+        store(1, D, B, 1024),  # sh
+        load(4, E, B, 1),  # lbu
+        store(0, E, B, 1027),  # sb
+        register(0x00, 0, F, F, E),  # add
+        addi(A, A, 4),
+        immediate(7, A, A, 1020),  # andi
+    ],
+)
+
+# Products and quotients of a counter and a mixed register.
+DIVISION = looped(
+    [upper(B, 0x0019F), addi(B, B, 1549), addi(C, ZERO, 1)],
+    [
+        addi(A, A, 7),
+        register(1, 0, C, C, B),  # mul
+        register(0x00, 0, C, C, A),  # add
+        register(1, 3, D, C, B),  # mulhu
+        register(1, 1, E, C, B),  # mulh
+        register(1, 5, F, C, A),  # divu
+        register(1, 7, D, C, A),  # remu
+        register(1, 4, E, C, A),  # div
+        register(1, 6, D, C, A),  # rem
+        register(0x00, 4, C, C, F),  # xor
+    ],
+)
+
+LOOPS = {"arithmetic": ARITHMETIC, "memory": MEMORY, "division": DIVISION}
+
+
+def image(code):
+    """The bytes of an image with this code behind its preamble."""
+    words = HEAD + [128 + 4 * len(code), DATA_SIZE] + 16 * [0] + code
+    return struct.pack(f"<{len(words)}I", *words)
+
+
+if __name__ == "__main__":
+    if len(sys.argv) != 2:
+        sys.exit("usage: loops.py FOLDER")
+    for name, code in LOOPS.items():
+        (pathlib.Path(sys.argv[1]) / f"{name}.img").write_bytes(image(code))
