@@ -20,7 +20,7 @@ if [ ! -x "$txboard" ]; then
     echo "hart: skipped, the program isn't built: call ./txboard once"
     exit 0
 fi
-runs="${1:-3}"
+runs="${1:-10}"
 most="${2:-100000000}"
 
 work=$(mktemp -d)
