@@ -1,1 +1,5 @@
+pub mod Code
+pub mod Kind
 pub mod Line
+pub mod Reference
+pub mod State

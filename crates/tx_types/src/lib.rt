@@ -1,10 +1,23 @@
 //! Plain values that every layer of the board shares.
 #![tactic(auto)]
 
+mod code;
+mod kind;
 pub mod line;
+mod name;
 mod no_memory;
 mod numbers;
+mod reference;
+mod state;
 
+pub use code::Code;
+pub use kind::Kind;
 pub use line::{Line, put_decimal, put_hex};
+pub use name::Name;
 pub use no_memory::NoMemory;
-pub use numbers::ModNo;
+pub use numbers::{ModNo, ObjNo, Prio, ThreadNo, Thresh};
+pub use reference::ObjRef;
+pub use state::State;
+
+#[cfg(test)]
+mod tests;

@@ -37,3 +37,131 @@ impl ModNo {
         self.0
     }
 }
+
+/// The number of a kernel object, which is that of its slot, 0 to 255.
+#[derive(Clone, Copy, Debug, PartialEq, Eq)]
+pub struct ObjNo(u16);
+
+/// The number of a thread, which is its object's number.
+pub type ThreadNo = ObjNo;
+
+impl Model for ObjNo {
+    ghost use Rattle.std.specs.Prelude.{ℕ, ◌<◌};
+
+    ghost Value = { ℕ };
+
+    ghost view = { λ o. o.0 };
+
+    ghost invariant = { λ o. o.0 < 256 };
+
+    ghost inverse = { λ n. record { 0 = n } };
+}
+
+impl ObjNo {
+    ghost use Rattle.std.specs.Prelude.{◌≡◌, ◌<◌};
+
+    /// The object of a number.
+    #[inline]
+    pub fn new(number: u16) -> ObjNo
+        requires { number < 256 }
+        ensures { result ≡ number }
+    {
+        ObjNo(number)
+    }
+
+    /// Its number.
+    #[inline]
+    pub fn number(self) -> u16
+        ensures same { result ≡ self }
+        ensures below_256 { result < 256 }
+    {
+        self.0
+    }
+
+    /// Its place in a table of 256 entries.
+    #[inline]
+    pub fn place(self) -> usize
+        ensures same { result ≡ self }
+        ensures below_256 { result < 256 }
+    {
+        self.0 as usize
+    }
+}
+
+/// The priority of a thread, below 1,024; 0 is the most urgent (ThreadX User Guide, "Thread
+/// Priorities").
+#[derive(Clone, Copy, Debug, PartialEq, Eq)]
+pub struct Prio(u16);
+
+impl Model for Prio {
+    ghost use Rattle.std.specs.Prelude.{ℕ, ◌<◌};
+
+    ghost Value = { ℕ };
+
+    ghost view = { λ p. p.0 };
+
+    ghost invariant = { λ p. p.0 < 1024 };
+
+    ghost inverse = { λ n. record { 0 = n } };
+}
+
+impl Prio {
+    ghost use Rattle.std.specs.Prelude.{◌≡◌, ◌<◌};
+
+    /// The priority of a number.
+    #[inline]
+    pub fn new(number: u16) -> Prio
+        requires { number < 1024 }
+        ensures { result ≡ number }
+    {
+        Prio(number)
+    }
+
+    /// Its number.
+    #[inline]
+    pub fn number(self) -> u16
+        ensures same { result ≡ self }
+        ensures below_1024 { result < 1024 }
+    {
+        self.0
+    }
+}
+
+/// The preemption-threshold of a thread, below 1,024: only threads of a lower priority number may
+/// preempt it (ThreadX User Guide, "Preemption-Threshold").
+#[derive(Clone, Copy, Debug, PartialEq, Eq)]
+pub struct Thresh(u16);
+
+impl Model for Thresh {
+    ghost use Rattle.std.specs.Prelude.{ℕ, ◌<◌};
+
+    ghost Value = { ℕ };
+
+    ghost view = { λ p. p.0 };
+
+    ghost invariant = { λ p. p.0 < 1024 };
+
+    ghost inverse = { λ n. record { 0 = n } };
+}
+
+impl Thresh {
+    ghost use Rattle.std.specs.Prelude.{◌≡◌, ◌<◌};
+
+    /// The threshold of a number.
+    #[inline]
+    pub fn new(number: u16) -> Thresh
+        requires { number < 1024 }
+        ensures { result ≡ number }
+    {
+        Thresh(number)
+    }
+
+    /// Its number.
+    #[inline]
+    pub fn number(self) -> u16
+        ensures same { result ≡ self }
+        ensures below_1024 { result < 1024 }
+    {
+        self.0
+    }
+}

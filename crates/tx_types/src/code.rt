@@ -1,0 +1,84 @@
+//! Status codes.
+use std::marker::Model;
+
+/// The status that a service answers, by the numbers of the ThreadX API (`tx_api.h`).
+#[derive(Clone, Copy, Debug, PartialEq, Eq)]
+pub struct Code(u8);
+
+impl Model for Code {
+    ghost use Rattle.std.specs.Prelude.{ℕ, ◌<◌};
+
+    ghost Value = { ℕ };
+
+    ghost view = { λ c. c.0 };
+
+    ghost invariant = { λ c. c.0 < 256 };
+
+    ghost inverse = { λ n. record { 0 = n } };
+}
+
+impl Code {
+    ghost use Rattle.std.specs.Prelude.{◌≡◌};
+
+    /// The call did what it was asked for.
+    pub const SUCCESS: Code = Code(0x00);
+
+    /// A pointer is 0 or isn't aligned, or a name has no end.
+    pub const PTR_ERROR: Code = Code(0x03);
+
+    /// A size is out of range.
+    pub const SIZE_ERROR: Code = Code(0x05);
+
+    /// A kind or an option is none.
+    pub const OPTION_ERROR: Code = Code(0x08);
+
+    /// There is no such object.
+    pub const NO_INSTANCE: Code = Code(0x0D);
+
+    /// The reference names no thread that the module may use.
+    pub const THREAD_ERROR: Code = Code(0x0E);
+
+    /// A priority is out of range.
+    pub const PRIORITY_ERROR: Code = Code(0x0F);
+
+    /// No object slot is usable (NO_MEMORY); also START_ERROR.
+    pub const NO_MEMORY: Code = Code(0x10);
+
+    /// The thread is neither completed nor terminated.
+    pub const DELETE_ERROR: Code = Code(0x11);
+
+    /// The thread isn't suspended.
+    pub const RESUME_ERROR: Code = Code(0x12);
+
+    /// The module may not make this call.
+    pub const CALLER_ERROR: Code = Code(0x13);
+
+    /// The thread is completed or terminated.
+    pub const SUSPEND_ERROR: Code = Code(0x14);
+
+    /// A threshold is out of range.
+    pub const THRESH_ERROR: Code = Code(0x18);
+
+    /// A suspension that was held is lifted.
+    pub const SUSPEND_LIFTED: Code = Code(0x19);
+
+    /// The thread is neither completed nor terminated.
+    pub const NOT_DONE: Code = Code(0x20);
+
+    /// A pointer leaves the regions of the caller's module.
+    pub const INVALID_MEMORY: Code = Code(0xF4);
+
+    /// The status of a number.
+    pub fn new(number: u8) -> Code
+        ensures { result ≡ number }
+    {
+        Code(number)
+    }
+
+    /// Its number.
+    pub fn number(self) -> u8
+        ensures { result ≡ self }
+    {
+        self.0
+    }
+}
