@@ -10,6 +10,11 @@ abbrev pub UsedIsInRam : Type 0
 UsedIsInRam =
     (g : Memory) (m : ℕ) (k : Access) (a n : ℕ) → IsSound g → 0 < n → may g m k a n ≡ true → IsRangeInRam g.bytes a n
 
+-- a part of a range that may be used may be used
+abbrev pub PartsMayBeUsed : Type 0
+PartsMayBeUsed =
+    (g : Memory) (m : ℕ) (k : Access) (a n b part : ℕ) → 0 < n → may g m k a n ≡ true → a ≤ b → b + part ≤ a + n → may g m k b part ≡ true
+
 -- outside of what is written each byte stays
 abbrev pub BytesOutsideStay : Type 0
 BytesOutsideStay =

@@ -10,7 +10,7 @@ ghost use Rattle.machine_words.specs.Number.{IsWidth};
 ghost use Rattle.region_guard.specs.Add.{add_answer, after_add};
 ghost use Rattle.region_guard.specs.Lending.{LendsWindow};
 ghost use Rattle.region_guard.specs.Region.{meets};
-ghost use Rattle.region_guard.specs.Memory.{Memory, IsInRam, IsRangeInRam, IsSound, may, reaches, number, bytes_from, with_bytes, with_number};
+ghost use Rattle.region_guard.specs.Memory.{Memory, IsInRam, IsRangeInRam, IsSound, may, reaches, byte, number, bytes_from, with_bytes, with_number};
 
 use crate::region::{Access, Region, some_lets};
 use crate::{MOST_REGIONS, RAM_BASE};
@@ -130,6 +130,17 @@ impl Guard {
         ensures in_ram { IsRangeInRam self.now.bytes a n }
     {
         self.ram.get(self.offset(m, access, a, n), n)
+    }
+
+    /// The byte at an address, where module m may use it so.
+    pub fn byte(&self, m: ModNo, access: Access, a: u32) -> Option<u8>
+        ensures { result ≡ (if may self.now m access a 1 then Some (byte self.now a) else None) }
+    {
+        if self.may(m, access, a, 1) {
+            Some(self.ram.bytes(self.offset(m, access, a, 1), 1)[0])
+        } else {
+            None
+        }
     }
 
     /// Stores the low n bytes of v from an address on.

@@ -1,11 +1,12 @@
 //! What holds of every use of guarded memory, for the layers above: each function's contract is a law.
-ghost use Rattle.region_guard.specs.Laws.{UsedIsInRam, BytesOutsideStay, WrittenBytesStand, NumbersOutsideStay, StoreChangesItsBytes, StoreIsReadBack, RuleStays, SoundnessStays};
+ghost use Rattle.region_guard.specs.Laws.{UsedIsInRam, PartsMayBeUsed, BytesOutsideStay, WrittenBytesStand, NumbersOutsideStay, StoreChangesItsBytes, StoreIsReadBack, RuleStays, SoundnessStays};
 
 use flat_ram::{a_number_lies_lowest_byte_first, a_write_changes_its_range_alone};
 
-/// What may be used lies in RAM.
+/// What may be used lies in RAM, and each part of it may be used.
 pub fn what_may_be_used_is_in_ram()
-    ensures { UsedIsInRam }
+    ensures in_ram { UsedIsInRam }
+    ensures parts { PartsMayBeUsed }
 {}
 
 /// A write changes its range alone: each byte and number outside stays, and so do the rule and what

@@ -113,6 +113,8 @@ fn what_is_stored_is_read(rt: HostRuntime) -> Result<(), Fail> {
     assert!(rt; g.may(m, Load, 0x8000_01DD, 2));
     assert_eq!(rt; g.get(m, Load, 0x8000_01DD, 2), 0x0302);
     assert_eq!(rt; read(&g, 0x8000_01DA, 6), [0, 0, 1, 2, 3, 4].as_slice());
+    assert_eq!(rt; g.byte(m, Load, 0x8000_01DF), Some(4));
+    assert_eq!(rt; g.byte(m, Store, 0x8000_01E0), None);
     Ok(())
 }
 
