@@ -1,0 +1,5 @@
+pub mod Kept
+pub mod Laws
+pub mod Members
+pub mod Moves
+pub mod Sched
