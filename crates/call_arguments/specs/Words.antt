@@ -1,10 +1,14 @@
 -- Words that a service reads from a module's memory or writes to it.
-use Rattle.std.specs.Prelude.{ℕ, ◌+◌, List, [], ◌∷◌}
+use Rattle.std.specs.Prelude.{ℕ, ◌+◌, ◌*◌, List, [], ◌∷◌}
 use Rattle.region_guard.specs.Memory.{Memory, number, with_number}
 
 -- the word at an address
 abbrev pub word_at : Memory → ℕ → ℕ
 word_at g a = number g a 4
+
+-- word number i of a block
+abbrev pub nth_word : Memory → ℕ → ℕ → ℕ
+nth_word g x i = word_at g (x + 4 * i)
 
 -- the memory with a word at an address
 abbrev pub with_word : Memory → ℕ → ℕ → Memory

@@ -9,7 +9,7 @@ mod words;
 
 pub use names::name_at;
 pub use pointers::pointer_refusal;
-pub use words::{put_word, put_words, word_at};
+pub use words::{nth_word, put_word, put_words, word_at};
 
 #[cfg(test)]
 mod tests;

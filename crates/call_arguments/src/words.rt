@@ -1,9 +1,9 @@
 //! Words in a module's memory.
 //!
 //! Each stands in four bytes, the lowest first.
-ghost use Rattle.std.specs.Prelude.{◌≡◌, ◌*◌, true, length};
+ghost use Rattle.std.specs.Prelude.{◌≡◌, ◌≤◌, ◌+◌, ◌*◌, true, length};
 ghost use Rattle.region_guard.specs.Memory.{may};
-ghost use Rattle.call_arguments.specs.Words.{word_at, with_word, with_words};
+ghost use Rattle.call_arguments.specs.Words.{word_at, nth_word, with_word, with_words};
 
 use region_guard::{Access, Guard, a_write_changes_its_bytes_alone, what_may_be_used_is_in_ram};
 use tx_types::ModNo;
@@ -14,6 +14,17 @@ pub fn word_at(g: &Guard, m: ModNo, a: u32) -> u32
     ensures { result ≡ word_at g.now a }
 {
     g.get(m, Access::Load, a, 4)
+}
+
+/// Word number i of a block of n bytes.
+pub fn nth_word(g: &Guard, m: ModNo, x: u32, n: u32, i: u32) -> u32
+    requires allowed { may g.now m Access.Load x n ≡ true }
+    requires inside { 4 * i + 4 ≤ n }
+    ensures { result ≡ nth_word g.now x i }
+{
+    what_may_be_used_is_in_ram();
+    let _ = g.regions();
+    word_at(g, m, x + 4 * i)
 }
 
 /// Writes a word at an address.
