@@ -1,0 +1,6 @@
+pub mod Blank
+pub mod Making
+pub mod NamedIsLive
+pub mod Running
+pub mod Scheduling
+pub mod Sound

@@ -1,0 +1,155 @@
+-- A sound kernel stays sound where a thread is made, and where one that is over is removed.
+use Rattle.std.proofs.Common.{◌≡◌, ◌≢◌, ℕ, ◌<◌, ◌≤◌, ◌%◌, ◌==◌, ◌&&◌, ◌⊎◌, Bool, true, false, cond, min, [], Option, None, Some, IfSome, refl, sym, ap, ◌∙◌, subst, ⊎_elim, inl, inr, arith}
+use Rattle.std.proofs.lemmas.Bool.{cases_eq, cases_lt, eqb-false, false≢true, true≢false}
+use Rattle.std.proofs.lemmas.List.{get_or-set_same, get_or-set_other, get_or_past, length-set}
+use Rattle.tx_types.specs.declared.state.State.{State}
+use Rattle.tx_types.specs.declared.state.State.TheVariants.{Ready, Completed, Terminated, Suspended, Sleep, QueueSusp, SemaphoreSusp, EventFlag, BlockMemory, ByteMemory, MutexSusp}
+use Rattle.tx_types.specs.declared.kind.Kind.TheVariants.{Thread as ThreadKind}
+use Rattle.object_grants.specs.Table.{slot, after_make_live}
+use Rattle.object_grants.specs.Slot.{free_slot, is_in, is_kind, slot_state_number}
+use Rattle.object_grants.specs.declared.slot.Slot.{Slot}
+use Rattle.object_grants.specs.declared.slot.SlotState.{SlotState}
+use Rattle.object_grants.specs.declared.slot.SlotState.TheVariants.{Free, Empty, Live}
+use Rattle.ready_maps.specs.Sched.{is_ready}
+use Rattle.kernel_state.specs.Kernel.{thread, has_thread, is_thread, module_of, spot, made_thread, removed, unless_is}
+use Rattle.kernel_state.specs.Laws.{OneThreadIsMade, OneThreadIsRemoved}
+use Rattle.kernel_state.specs.Scheduling.{PriorityChangesOne}
+use Rattle.kernel_state.specs.Sound.{IsSound, IsThread, IsEntry, IsSpot, IsSlice, IsClean}
+use Rattle.kernel_state.specs.Spot.{blank_spot}
+use Rattle.kernel_state.specs.Thread.{blank_thread, new_thread, is_over, is_state}
+use Rattle.kernel_state.specs.declared.kernel.Kernel.{Kernel}
+use Rattle.kernel_state.specs.declared.spot.Spot.{Spot}
+use Rattle.kernel_state.specs.declared.thread.Thread.{Thread}
+use Rattle.kernel_state.proofs.Sound.{entry_stays, IfSome-from, spot_stays}
+
+-- a slot in one state is in no other
+no_thread_if_empty : (s : Slot) → is_in Empty s ≡ true → has_thread s ≡ false
+no_thread_if_empty s empty = by_state s.state (is_kind ThreadKind s) empty where
+  by_state : (state : SlotState) (kind : Bool) → (slot_state_number state == 1) ≡ true → ((slot_state_number state == 2) && kind) ≡ false
+  by_state Free kind e = absurd (false≢true e)
+  by_state Empty kind e = refl
+  by_state Live kind e = absurd (false≢true e)
+
+-- what is Empty has a number below 256
+below_if_empty : (k : Kernel) (o : ℕ) → IsSound k → is_in Empty (slot k.objects o) ≡ true → o < 256
+below_if_empty k o sound empty = ⊎_elim (λ below. below) (λ past. absurd (false≢true (sym (ap (is_in Empty) (get_or_past k.objects o (free_slot 0) (omega (arith, sound.slots)))) ∙ empty))) (cases_lt o 256)
+
+-- a slice is whole at first
+whole_slice : (n : ℕ) → ((n ≡ 0) × (n ≡ 0)) ⊎ ((1 ≤ n) × (n ≤ n))
+whole_slice n = ⊎_elim (λ (none : n ≡ 0). inl (none, none)) (λ (some : n ≢ 0). inr (omega arith, omega arith)) (cases_eq n 0)
+
+pub one_thread_is_made : PriorityChangesOne → OneThreadIsMade
+one_thread_is_made sets k o name s sound empty kind owner no_zero at_most level =
+    let below = below_if_empty k o sound empty in
+    let before : Kernel = record k { objects = after_make_live k.objects o name } in
+    let after = made_thread before o s in
+    let made : Slot = record (slot k.objects o) { state = Live; name = name } in
+    let none : is_thread k o ≡ false = no_thread_if_empty (slot k.objects o) empty in
+    let slot_here : slot after.objects o ≡ made = get_or-set_same k.objects o made (free_slot 0) (omega (arith, sound.slots)) in
+    let slot_there = λ (u : ℕ) (other : u ≢ o). get_or-set_other k.objects o u made (free_slot 0) other in
+    let here : thread after o ≡ new_thread s = get_or-set_same k.threads o (new_thread s) blank_thread (omega (arith, sound.threads)) in
+    let there = λ (u : ℕ) (other : u ≢ o). get_or-set_other k.threads o u (new_thread s) blank_thread other in
+    let absent : is_ready k.ready o ≡ false = subst (IsEntry k o) none (sound.entries o below) in
+    let set = sets k.ready o s.priority s.threshold sound.scheduler below at_most level in
+    let live : is_thread after o ≡ true = ap has_thread slot_here ∙ kind in
+    let is_made : IsThread after o = record {
+      owner = ap (λ (t : Thread). t.module) here ∙ (owner ∙ sym (ap (λ (x : Slot). x.owner) slot_here));
+      ready = set.ready ∙ (absent ∙ sym (ap (λ (t : Thread). is_state t.state Ready) here));
+      priority = subst (λ (t : Thread). t.priority < after.ready.levels) (sym here) (subst (λ (n : ℕ). s.priority < n) (sym set.others.levels) level);
+      threshold = subst (λ (t : Thread). t.threshold ≤ t.priority) (sym here) at_most;
+      in_scheduler = set.priority ∙ sym (ap (λ (t : Thread). t.priority) here);
+      threshold_in_scheduler = set.threshold ∙ (omega arith ∙ sym (ap (λ (t : Thread). min t.threshold t.priority) here));
+      slice = subst IsSlice (sym here) (whole_slice s.slice);
+      held = λ is_held. absurd (false≢true (sym (ap (λ (t : Thread). t.held) here) ∙ is_held));
+    } in
+    record {
+      levels = set.others.levels ∙ sound.levels;
+      scheduler = set.others.kept;
+      slots = length-set k.objects o made ∙ sound.slots;
+      threads = length-set k.threads o (new_thread s) ∙ sound.threads;
+      spots = sound.spots;
+      clean = λ u u_below. ⊎_elim
+          (λ (same : u ≡ o). subst (λ n. IsClean (slot after.objects n) (slot after.objects n).state) (sym same) (subst (λ (x : Slot). IsClean x x.state) (sym slot_here) no_zero))
+          (λ (other : u ≢ o). subst (λ (x : Slot). IsClean x x.state) (sym (slot_there u other)) (sound.clean u u_below))
+          (cases_eq u o);
+      entries = λ u u_below. ⊎_elim
+          (λ (same : u ≡ o). subst (λ n. IsEntry after n (is_thread after n)) (sym same) (subst (IsEntry after o) (sym live) is_made))
+          (λ (other : u ≢ o). subst (IsEntry after u) (sym (ap has_thread (slot_there u other))) (entry_stays k after u (is_thread k u) (record {
+            levels = set.others.levels;
+            thread = there u other;
+            owner = ap (λ (x : Slot). x.owner) (slot_there u other);
+            ready = set.others.ready u other;
+            priority = set.others.priority u other;
+            threshold = set.others.threshold u other;
+          }) (sound.entries u u_below)))
+          (cases_eq u o);
+      places = λ m m_below. spot_stays k after m refl (λ c c_below is_one of_m.
+          let other : c ≢ o = λ same. true≢false (sym is_one ∙ (ap (is_thread k) same ∙ none)) in
+          (ap has_thread (slot_there c other) ∙ is_one, ap (λ (t : Thread). t.module) (there c other) ∙ of_m)) (sound.places m m_below);
+    }
+
+-- a thread that is over isn't ready
+over_not_ready : (state : State) → is_over state ≡ true → is_state state Ready ≡ false
+over_not_ready Ready over = absurd (false≢true over)
+over_not_ready Completed over = refl
+over_not_ready Terminated over = refl
+over_not_ready Suspended over = refl
+over_not_ready Sleep over = refl
+over_not_ready QueueSusp over = refl
+over_not_ready SemaphoreSusp over = refl
+over_not_ready EventFlag over = refl
+over_not_ready BlockMemory over = refl
+over_not_ready ByteMemory over = refl
+over_not_ready MutexSusp over = refl
+
+-- what is left of an option without a number isn't that number
+unless_is-from : (t : ℕ) (o : Option ℕ) (P : ℕ → Type 0) → IfSome o P → IfSome (unless_is t o) (λ u. (u ≢ t) × P u)
+unless_is-from t None P h = tt
+unless_is-from t (Some u) P h = elim (u == t) as (λ b. (u == t) ≡ b → IfSome (cond b None (Some u)) (λ v. (v ≢ t) × P v)) [ true ↦ λ e. tt | false ↦ λ e. (eqb-false u t e, h) ] refl
+
+pub one_thread_is_removed : OneThreadIsRemoved
+one_thread_is_removed k t sound below live over =
+    let after = removed k t in
+    let own = module_of k t in
+    let emptied : Slot = record (slot k.objects t) { state = Empty; grants = 0; name = [] } in
+    let left : Spot = record (spot k own) { callback = unless_is t (spot k own).callback } in
+    let slot_here : slot after.objects t ≡ emptied = get_or-set_same k.objects t emptied (free_slot 0) (omega (arith, sound.slots)) in
+    let slot_there = λ (u : ℕ) (other : u ≢ t). get_or-set_other k.objects t u emptied (free_slot 0) other in
+    let sound_thread : IsThread k t = subst (IsEntry k t) live (sound.entries t below) in
+    let not_ready : is_ready k.ready t ≡ false = sound_thread.ready ∙ over_not_ready (thread k t).state over in
+    let callback_stays = λ (c : ℕ) (other : c ≢ t) (is_one : is_thread k c ≡ true). ap has_thread (slot_there c other) ∙ is_one in
+    record {
+      levels = sound.levels;
+      scheduler = sound.scheduler;
+      slots = length-set k.objects t emptied ∙ sound.slots;
+      threads = sound.threads;
+      spots = length-set k.spots own left ∙ sound.spots;
+      clean = λ u u_below. ⊎_elim
+          (λ (same : u ≡ t). subst (λ n. IsClean (slot after.objects n) (slot after.objects n).state) (sym same) (subst (λ (x : Slot). IsClean x x.state) (sym slot_here) (refl, refl)))
+          (λ (other : u ≢ t). subst (λ (x : Slot). IsClean x x.state) (sym (slot_there u other)) (sound.clean u u_below))
+          (cases_eq u t);
+      entries = λ u u_below. ⊎_elim
+          (λ (same : u ≡ t). subst (λ n. IsEntry after n (is_thread after n)) (sym same) (subst (IsEntry after t) (sym (ap has_thread slot_here)) not_ready))
+          (λ (other : u ≢ t). subst (IsEntry after u) (sym (ap has_thread (slot_there u other))) (entry_stays k after u (is_thread k u) (record {
+            levels = refl;
+            thread = refl;
+            owner = ap (λ (x : Slot). x.owner) (slot_there u other);
+            ready = refl;
+            priority = refl;
+            threshold = refl;
+          }) (sound.entries u u_below)))
+          (cases_eq u t);
+      places = λ m m_below. ⊎_elim
+          (λ (same : m ≡ own).
+          let spot_here : spot after m ≡ left = subst (λ n. spot after n ≡ left) (sym same) (get_or-set_same k.spots own left blank_spot (omega (arith, sound.spots, same, m_below))) in
+          let was : IsSpot k own (spot k own) = subst (λ n. IsSpot k n (spot k n)) same (sound.places m m_below) in
+          record {
+            shell = ap (λ (s : Spot). s.shell % 4) spot_here ∙ was.shell;
+            callback = subst (λ (s : Spot). IfSome s.callback (λ c. (c < 256) × (is_thread after c ≡ true) × (module_of after c ≡ m))) (sym spot_here)
+                (IfSome-from left.callback _ _ (λ c h. (h.1.0, callback_stays c h.0 h.1.1, h.1.2 ∙ sym same)) (unless_is-from t (spot k own).callback _ was.callback));
+          })
+          (λ (other : m ≢ own). spot_stays k after m (get_or-set_other k.spots own m left blank_spot other) (λ c c_below is_one of_m.
+          let not_t : c ≢ t = λ same. other (sym of_m ∙ ap (module_of k) same) in
+          (callback_stays c not_t is_one, of_m)) (sound.places m m_below))
+          (cases_eq m own);
+    }

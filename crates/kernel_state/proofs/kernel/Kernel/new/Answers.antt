@@ -1,0 +1,8 @@
+use Rattle.std.proofs.Common.{subst}
+use Rattle.ready_maps.specs.Kept.{IsKept}
+use Rattle.kernel_state.proofs.Blank.{blank_is_sound}
+use Rattle.kernel_state.proofs.kernel.Kernel.new.Goals as goal
+
+pub returns-clause-sound : goal.returns-clause-sound
+returns-clause-sound c =
+    rw (c.in_ok-ready.ensures.blank, c.in_ok-objects.ensures, c.in_ok-threads.ensures, c.in_ok-spots.ensures) (blank_is_sound (subst IsKept c.in_ok-ready.ensures.blank c.in_ok-ready.ensures.kept))

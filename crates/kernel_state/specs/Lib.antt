@@ -1,0 +1,10 @@
+pub mod Entries
+pub mod Kernel
+pub mod Laws
+pub mod Lending
+pub mod Outcome
+pub mod Scheduling
+pub mod Sound
+pub mod Spot
+pub mod Tests
+pub mod Thread

@@ -1,0 +1,55 @@
+-- What holds of the kernel's state before and after every service.
+use Rattle.std.specs.Prelude.{◌≡◌, ◌≢◌, ◌⊎◌, ℕ, ◌%◌, ◌<◌, ◌≤◌, Bool, true, false, [], length, All, IfSome}
+use Rattle.tx_types.specs.declared.state.State.TheVariants.{Ready}
+use Rattle.object_grants.specs.Table.{slot}
+use Rattle.object_grants.specs.declared.slot.Slot.{Slot}
+use Rattle.object_grants.specs.declared.slot.SlotState.{SlotState}
+use Rattle.object_grants.specs.declared.slot.SlotState.TheVariants.{Free, Empty, Live}
+use Rattle.ready_maps.specs.Sched.{pr, th, is_ready}
+use Rattle.ready_maps.specs.Kept.{IsKept}
+use Rattle.kernel_state.specs.Thread.{is_state, is_waiting}
+use Rattle.kernel_state.specs.Kernel.{thread, is_thread, module_of, spot, effective_priority, effective_threshold}
+use Rattle.kernel_state.specs.declared.kernel.Kernel.{Kernel}
+use Rattle.kernel_state.specs.declared.spot.Spot.{Spot}
+use Rattle.kernel_state.specs.declared.thread.Thread.{Thread}
+
+-- a slot without an object has no name and no grants, and one that is free no owner either; no name has a zero byte
+abbrev pub IsClean : Slot → SlotState → Type 0
+IsClean s Free = (s.owner ≡ 0) × (s.grants ≡ 0) × (s.name ≡ [])
+IsClean s Empty = (s.grants ≡ 0) × (s.name ≡ [])
+IsClean s Live = All (λ b. b ≢ 0) s.name
+
+-- a slice of 0 is never used up; else between 1 and all of it is left
+abbrev pub IsSlice : Thread → Type 0
+IsSlice t = ((t.slice ≡ 0) × (t.left ≡ 0)) ⊎ ((1 ≤ t.left) × (t.left ≤ t.slice))
+
+-- a thread agrees with its slot and with the scheduler
+pub record IsThread (k : Kernel) (t : ℕ) : Type 0 where
+  pub owner : module_of k t ≡ (slot k.objects t).owner
+  pub ready : is_ready k.ready t ≡ is_state (thread k t).state Ready
+  pub priority : (thread k t).priority < k.ready.levels
+  pub threshold : (thread k t).threshold ≤ (thread k t).priority
+  pub in_scheduler : pr k.ready t ≡ effective_priority k t
+  pub threshold_in_scheduler : th k.ready t ≡ effective_threshold k t
+  pub slice : IsSlice (thread k t)
+  pub held : (thread k t).held ≡ true → is_waiting (thread k t).state ≡ true
+
+-- what is no thread isn't ready
+abbrev pub IsEntry : Kernel → ℕ → Bool → Type 0
+IsEntry k t true = IsThread k t
+IsEntry k t false = is_ready k.ready t ≡ false
+
+-- a module's threads begin at a multiple of 4, and its callback thread is a thread of its own
+pub record IsSpot (k : Kernel) (m : ℕ) (s : Spot) : Type 0 where
+  pub shell : s.shell % 4 ≡ 0
+  pub callback : IfSome s.callback (λ t. (t < 256) × (is_thread k t ≡ true) × (module_of k t ≡ m))
+
+pub record IsSound (k : Kernel) : Type 0 where
+  pub levels : k.ready.levels ≡ 32
+  pub scheduler : IsKept k.ready
+  pub slots : length k.objects ≡ 256
+  pub threads : length k.threads ≡ 256
+  pub spots : length k.spots ≡ 16
+  pub clean : (o : ℕ) → o < 256 → IsClean (slot k.objects o) (slot k.objects o).state
+  pub entries : (t : ℕ) → t < 256 → IsEntry k t (is_thread k t)
+  pub places : (m : ℕ) → m < 16 → IsSpot k m (spot k m)

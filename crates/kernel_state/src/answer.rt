@@ -1,0 +1,15 @@
+//! The arguments of a service and its answer.
+use tx_types::Code;
+
+/// The registers a0 to a6 of the caller.
+pub type Args = [u32; 7];
+
+/// What a service answers: a status or a value for a0, that the caller waits, or that it has ended
+/// and gets no a0.
+#[derive(Clone, Copy, Debug, PartialEq, Eq)]
+pub enum Answer {
+    Code(Code),
+    Value(u32),
+    Waits,
+    Ended,
+}

@@ -1,0 +1,21 @@
+//! The kernel's state, and what services answer.
+#![tactic(auto)]
+
+mod answer;
+mod kernel;
+pub mod laws;
+mod naming;
+mod spot;
+mod state;
+mod thread;
+mod threads;
+
+pub use answer::{Answer, Args};
+pub use kernel::Kernel;
+pub use spot::{Spot, Spots};
+pub use state::{is_over, is_waiting};
+pub use thread::{Thread, ThreadSpec};
+pub use threads::Threads;
+
+#[cfg(test)]
+mod tests;
