@@ -1,0 +1,5 @@
+pub mod Created
+pub mod NumberChanges
+pub mod SlotChanges
+pub mod StateChanges
+pub mod Suits

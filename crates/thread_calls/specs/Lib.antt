@@ -1,0 +1,5 @@
+pub mod Changes
+pub mod Create
+pub mod Laws
+pub mod ObjectRows
+pub mod ThreadRows

@@ -1,0 +1,104 @@
+-- The thread services, a row each: the refusals from left to right, then the change (ThreadX User Guide, "Thread Services").
+use Rattle.std.specs.Prelude.{ℕ, ◌==◌, false, not, nat_le, nat_lt, List, slice_index, if◌then◌else◌}
+use Rattle.tx_types.specs.Code.{success, thread_error, priority_error, delete_error, resume_error, suspend_error, thresh_error, suspend_lifted, not_done}
+use Rattle.tx_types.specs.declared.kind.Kind.TheVariants.{Thread}
+use Rattle.tx_types.specs.declared.state.State.{State}
+use Rattle.tx_types.specs.declared.state.State.TheVariants.{Completed, Terminated, Suspended}
+use Rattle.call_arguments.specs.Names.{name_at}
+use Rattle.call_arguments.specs.Words.{with_word, with_words}
+use Rattle.object_grants.specs.Table.{ref_of}
+use Rattle.ready_maps.specs.Moves.{yielded}
+use Rattle.region_guard.specs.Memory.{Memory}
+use Rattle.region_guard.specs.declared.region.Access.TheVariants.{Load, Store}
+use Rattle.kernel_state.specs.Kernel.{thread, with_thread, module_of, removed}
+use Rattle.kernel_state.specs.Outcome.{Outcome, answering, answered, done, unless, found, given, refused}
+use Rattle.kernel_state.specs.Tests.{named, reserved, owner_refusal, caller_refusal}
+use Rattle.kernel_state.specs.Thread.{is_over, is_state}
+use Rattle.kernel_state.specs.declared.answer.Answer.TheVariants.{Value, Ended}
+use Rattle.kernel_state.specs.declared.answer.Answer.{Answer}
+use Rattle.kernel_state.specs.declared.answer.Answer.TheVariants.{Code}
+use Rattle.kernel_state.specs.declared.kernel.Kernel.{Kernel}
+use Rattle.thread_calls.specs.Changes.{started, suspended, ended, reset, with_user_threshold, with_user_priority, with_slice, thread_info}
+use Rattle.thread_calls.specs.Create.{block_at, block_refusal, created}
+
+-- argument number i
+abbrev pub arg : List ℕ → ℕ → ℕ
+arg a i = slice_index a i
+
+-- the caller's own thread, or another one, ends; who ends itself gets no answer
+abbrev pub end_answer : ℕ → ℕ → Answer
+end_answer by t = if t == by then Ended else Code success
+
+-- a thread is made of the block at an address
+unfoldable pub creation : Kernel → Memory → ℕ → ℕ → List ℕ → ℕ → Outcome
+creation k g by o name x =
+    unless k g (block_refusal k g by (block_at g x)) (done (created k by o name (block_at g x)) g)
+
+unfoldable pub thread_create_row : Kernel → Memory → ℕ → List ℕ → Outcome
+thread_create_row k g by a =
+    found k g thread_error (reserved k by (arg a 0) Thread) (λ o.
+    given k g (name_at g (module_of k by) (arg a 1)) (λ name.
+    unless k g (caller_refusal k g by Load (arg a 2) 32) (creation k g by o name (arg a 2))))
+
+unfoldable pub thread_delete_row : Kernel → Memory → ℕ → List ℕ → Outcome
+thread_delete_row k g by a =
+    found k g thread_error (named k by (arg a 0) Thread) (λ t.
+    unless k g (owner_refusal k by t)
+    (unless k g (refused (not (is_over (thread k t).state)) delete_error) (done (removed k t) g)))
+
+unfoldable pub thread_terminate_row : Kernel → Memory → ℕ → List ℕ → Outcome
+thread_terminate_row k g by a =
+    found k g thread_error (named k by (arg a 0) Thread) (λ t. answering (ended k t Terminated) g (end_answer by t))
+
+unfoldable pub thread_suspend_row : Kernel → Memory → ℕ → List ℕ → Outcome
+thread_suspend_row k g by a =
+    found k g thread_error (named k by (arg a 0) Thread) (λ t.
+    unless k g (refused (is_over (thread k t).state) suspend_error) (done (suspended k t) g))
+
+-- a suspension that is held is lifted; else a suspended thread is started
+unfoldable pub resumption : Kernel → Memory → ℕ → Outcome
+resumption k g t =
+    if (thread k t).held then answered (with_thread k t (record (thread k t) { held = false })) g suspend_lifted
+    else unless k g (refused (not (is_state (thread k t).state Suspended)) resume_error) (done (started k t) g)
+
+unfoldable pub thread_resume_row : Kernel → Memory → ℕ → List ℕ → Outcome
+thread_resume_row k g by a = found k g thread_error (named k by (arg a 0) Thread) (resumption k g)
+
+unfoldable pub thread_relinquish_row : Kernel → Memory → ℕ → List ℕ → Outcome
+thread_relinquish_row k g by a = done (record k { ready = yielded k.ready }) g
+
+unfoldable pub thread_identify_row : Kernel → Memory → ℕ → List ℕ → Outcome
+thread_identify_row k g by a = answering k g (Value (ref_of k.objects by))
+
+unfoldable pub thread_info_get_row : Kernel → Memory → ℕ → List ℕ → Outcome
+thread_info_get_row k g by a =
+    found k g thread_error (named k by (arg a 0) Thread) (λ t.
+    unless k g (caller_refusal k g by Store (arg a 1) 32) (done k (with_words g (arg a 1) (thread_info k t))))
+
+unfoldable pub thread_preemption_change_row : Kernel → Memory → ℕ → List ℕ → Outcome
+thread_preemption_change_row k g by a =
+    found k g thread_error (named k by (arg a 0) Thread) (λ t.
+    unless k g (caller_refusal k g by Store (arg a 2) 4)
+    (unless k g (refused (nat_lt (thread k t).priority (arg a 1)) thresh_error)
+    (done (with_user_threshold k t (arg a 1)) (with_word g (arg a 2) (thread k t).threshold))))
+
+unfoldable pub thread_priority_change_row : Kernel → Memory → ℕ → List ℕ → Outcome
+thread_priority_change_row k g by a =
+    found k g thread_error (named k by (arg a 0) Thread) (λ t.
+    unless k g (caller_refusal k g by Store (arg a 2) 4)
+    (unless k g (refused (nat_le k.ready.levels (arg a 1)) priority_error)
+    (done (with_user_priority k t (arg a 1)) (with_word g (arg a 2) (thread k t).priority))))
+
+unfoldable pub thread_time_slice_change_row : Kernel → Memory → ℕ → List ℕ → Outcome
+thread_time_slice_change_row k g by a =
+    found k g thread_error (named k by (arg a 0) Thread) (λ t.
+    unless k g (caller_refusal k g by Store (arg a 2) 4)
+    (done (with_slice k t (arg a 1)) (with_word g (arg a 2) (thread k t).slice)))
+
+unfoldable pub thread_reset_row : Kernel → Memory → ℕ → List ℕ → Outcome
+thread_reset_row k g by a =
+    found k g thread_error (named k by (arg a 0) Thread) (λ t.
+    unless k g (refused (not (is_over (thread k t).state)) not_done) (done (reset k t) g))
+
+unfoldable pub thread_complete_row : Kernel → Memory → ℕ → List ℕ → Outcome
+thread_complete_row k g by a = answering (ended k by Completed) g Ended

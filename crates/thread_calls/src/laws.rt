@@ -1,0 +1,36 @@
+//! Each change that a service makes keeps a kernel sound: each function's contract is a law.
+ghost use Rattle.thread_calls.specs.Laws.{StartKeepsSound, SuspendKeepsSound, EndKeepsSound, ResetKeepsSound, LiftKeepsSound, ThresholdKeepsSound, PriorityKeepsSound, SliceKeepsSound, YieldKeepsSound, AllocateKeepsSound, DeallocateKeepsSound, GrantKeepsSound};
+
+use kernel_state::laws::{a_kernel_stays_sound, a_move_leaves_others_alone};
+
+/// Starting, suspending, ending and resetting a thread, and lifting a suspension.
+pub fn a_change_of_state_keeps_sound()
+    ensures start { StartKeepsSound }
+    ensures suspend { SuspendKeepsSound }
+    ensures ending { EndKeepsSound }
+    ensures reset { ResetKeepsSound }
+    ensures lift { LiftKeepsSound }
+{
+    a_kernel_stays_sound();
+    a_move_leaves_others_alone();
+}
+
+/// New numbers of a thread, and a yield.
+pub fn a_change_of_numbers_keeps_sound()
+    ensures threshold { ThresholdKeepsSound }
+    ensures priority { PriorityKeepsSound }
+    ensures slice { SliceKeepsSound }
+    ensures yields { YieldKeepsSound }
+{
+    a_kernel_stays_sound();
+    a_move_leaves_others_alone();
+}
+
+/// Allocating, freeing and granting a slot.
+pub fn a_change_of_slots_keeps_sound()
+    ensures allocate { AllocateKeepsSound }
+    ensures deallocate { DeallocateKeepsSound }
+    ensures grant { GrantKeepsSound }
+{
+    a_kernel_stays_sound();
+}

@@ -1,0 +1,26 @@
+//! The services on object slots and on threads: one public function for each row of the table.
+//!
+//! A service tests its arguments from left to right, and then makes one change. Every one asks for a
+//! sound kernel and leaves one, takes no memory and returns.
+#![tactic(auto)]
+
+mod changes;
+mod create;
+pub mod laws;
+mod numbers;
+mod objects;
+mod threads;
+
+pub use changes::{end_thread, resume_object};
+pub use create::thread_create;
+pub use numbers::{
+    thread_info_get, thread_preemption_change, thread_priority_change, thread_time_slice_change,
+};
+pub use objects::{object_allocate, object_deallocate, object_pointer_get};
+pub use threads::{
+    thread_complete, thread_delete, thread_identify, thread_relinquish, thread_reset,
+    thread_resume, thread_suspend, thread_terminate,
+};
+
+#[cfg(test)]
+mod tests;

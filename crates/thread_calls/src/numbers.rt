@@ -1,0 +1,172 @@
+//! The services that tell and change a thread's numbers (ThreadX User Guide, "Thread Services").
+ghost use Rattle.std.specs.Prelude.{◌≡◌, ◌≤◌, ◌<◌, Some, true};
+ghost use Rattle.kernel_state.specs.Kernel.{thread, is_thread};
+ghost use Rattle.kernel_state.specs.Sound.{IsSound};
+ghost use Rattle.thread_calls.specs.Changes.{with_user_threshold, with_user_priority, with_slice, thread_info};
+ghost use Rattle.thread_calls.specs.ThreadRows.{thread_info_get_row, thread_preemption_change_row, thread_priority_change_row, thread_time_slice_change_row};
+
+use crate::laws::a_change_of_numbers_keeps_sound;
+use call_arguments::{put_word, put_words};
+use kernel_state::{Answer, Args, Kernel};
+use region_guard::{Access, Guard};
+use tx_types::{Code, Kind, Prio, ThreadNo, Thresh};
+
+/// `thread_info_get(a0, to)`: THREAD_ERROR, then a refusal of `to`; eight words are written there.
+#[tactic(auto, unfolding(crate::specs::ThreadRows::thread_info_get_row))]
+pub fn thread_info_get(k: &mut Kernel, g: &mut Guard, by: ThreadNo, a: &Args) -> Answer
+    requires sound { IsSound k.old }
+    requires runs { k.old.ready.run ≡ Some by }
+    ensures kernel { k.new ≡ (thread_info_get_row k.old g.old by a.now).kernel }
+    ensures memory { g.new ≡ (thread_info_get_row k.old g.old by a.now).memory }
+    ensures answer { result ≡ (thread_info_get_row k.old g.old by a.now).answer }
+    ensures sound { IsSound k.new }
+{
+    let Some(t) = k.named(by, a[0], Kind::Thread) else {
+        return Answer::Code(Code::THREAD_ERROR);
+    };
+    if let Some(refusal) = k.caller_refusal(g, by, Access::Store, a[1], 32) {
+        return Answer::Code(refusal);
+    }
+    let info = thread_info(k, t);
+    put_words(g, k.module_of(by), a[1], &info);
+    Answer::Code(Code::SUCCESS)
+}
+
+/// `thread_preemption_change(a0, new, old)`: THREAD_ERROR, then a refusal of `old`, then THRESH_ERROR
+/// where the new threshold is above the user's priority. The old threshold is written.
+#[tactic(auto, unfolding(crate::specs::ThreadRows::thread_preemption_change_row))]
+pub fn thread_preemption_change(k: &mut Kernel, g: &mut Guard, by: ThreadNo, a: &Args) -> Answer
+    requires sound { IsSound k.old }
+    requires runs { k.old.ready.run ≡ Some by }
+    ensures kernel { k.new ≡ (thread_preemption_change_row k.old g.old by a.now).kernel }
+    ensures memory { g.new ≡ (thread_preemption_change_row k.old g.old by a.now).memory }
+    ensures answer { result ≡ (thread_preemption_change_row k.old g.old by a.now).answer }
+    ensures sound { IsSound k.new }
+{
+    let Some(t) = k.named(by, a[0], Kind::Thread) else {
+        return Answer::Code(Code::THREAD_ERROR);
+    };
+    if let Some(refusal) = k.caller_refusal(g, by, Access::Store, a[2], 4) {
+        return Answer::Code(refusal);
+    }
+    let thread = k.thread(t);
+    if a[1] > u32::from(thread.priority.number()) {
+        return Answer::Code(Code::THRESH_ERROR);
+    }
+    let old = u32::from(thread.threshold.number());
+    set_user_threshold(k, t, Thresh::new(a[1] as u16));
+    put_word(g, k.module_of(by), a[2], old);
+    Answer::Code(Code::SUCCESS)
+}
+
+/// `thread_priority_change(a0, new, old)`: THREAD_ERROR, then a refusal of `old`, then PRIORITY_ERROR
+/// where there is no such priority. The old priority is written; the threshold is the new priority.
+#[tactic(auto, unfolding(crate::specs::ThreadRows::thread_priority_change_row))]
+pub fn thread_priority_change(k: &mut Kernel, g: &mut Guard, by: ThreadNo, a: &Args) -> Answer
+    requires sound { IsSound k.old }
+    requires runs { k.old.ready.run ≡ Some by }
+    ensures kernel { k.new ≡ (thread_priority_change_row k.old g.old by a.now).kernel }
+    ensures memory { g.new ≡ (thread_priority_change_row k.old g.old by a.now).memory }
+    ensures answer { result ≡ (thread_priority_change_row k.old g.old by a.now).answer }
+    ensures sound { IsSound k.new }
+{
+    let Some(t) = k.named(by, a[0], Kind::Thread) else {
+        return Answer::Code(Code::THREAD_ERROR);
+    };
+    if let Some(refusal) = k.caller_refusal(g, by, Access::Store, a[2], 4) {
+        return Answer::Code(refusal);
+    }
+    if a[1] >= u32::from(k.priorities()) {
+        return Answer::Code(Code::PRIORITY_ERROR);
+    }
+    let old = u32::from(k.thread(t).priority.number());
+    set_user_priority(k, t, Prio::new(a[1] as u16));
+    put_word(g, k.module_of(by), a[2], old);
+    Answer::Code(Code::SUCCESS)
+}
+
+/// `thread_time_slice_change(a0, new, old)`: THREAD_ERROR, then a refusal of `old`, where the old
+/// slice is written.
+#[tactic(auto, unfolding(crate::specs::ThreadRows::thread_time_slice_change_row))]
+pub fn thread_time_slice_change(k: &mut Kernel, g: &mut Guard, by: ThreadNo, a: &Args) -> Answer
+    requires sound { IsSound k.old }
+    requires runs { k.old.ready.run ≡ Some by }
+    ensures kernel { k.new ≡ (thread_time_slice_change_row k.old g.old by a.now).kernel }
+    ensures memory { g.new ≡ (thread_time_slice_change_row k.old g.old by a.now).memory }
+    ensures answer { result ≡ (thread_time_slice_change_row k.old g.old by a.now).answer }
+    ensures sound { IsSound k.new }
+{
+    let Some(t) = k.named(by, a[0], Kind::Thread) else {
+        return Answer::Code(Code::THREAD_ERROR);
+    };
+    if let Some(refusal) = k.caller_refusal(g, by, Access::Store, a[2], 4) {
+        return Answer::Code(refusal);
+    }
+    let old = k.thread(t).slice;
+    set_slice(k, t, a[1]);
+    put_word(g, k.module_of(by), a[2], old);
+    Answer::Code(Code::SUCCESS)
+}
+
+/// What is told of a thread.
+fn thread_info(k: &Kernel, t: ThreadNo) -> [u32; 8]
+    requires sound { IsSound k.now }
+    requires live { is_thread k.now t ≡ true }
+    ensures { result ≡ thread_info k.now t }
+{
+    let thread = k.thread(t);
+    [
+        thread.state.number(),
+        u32::from(thread.held),
+        u32::from(thread.priority.number()),
+        u32::from(thread.threshold.number()),
+        u32::from(k.ready.priority(t).number()),
+        u32::from(k.ready.threshold(t).number()),
+        thread.slice,
+        thread.left,
+    ]
+}
+
+/// A thread gets a new threshold of the user's.
+fn set_user_threshold(k: &mut Kernel, t: ThreadNo, new: Thresh)
+    requires sound { IsSound k.old }
+    requires live { is_thread k.old t ≡ true }
+    requires at_most { new ≤ (thread k.old t).priority }
+    ensures after { k.new ≡ with_user_threshold k.old t new }
+    ensures sound { IsSound k.new }
+{
+    a_change_of_numbers_keeps_sound();
+    k.thread_mut(t).threshold = new;
+    let effective = k.effective_threshold(t);
+    k.ready.set_threshold(t, effective);
+}
+
+/// A thread gets a new priority of the user's, and a threshold equal to it.
+fn set_user_priority(k: &mut Kernel, t: ThreadNo, new: Prio)
+    requires sound { IsSound k.old }
+    requires live { is_thread k.old t ≡ true }
+    requires level { new < k.old.ready.levels }
+    ensures after { k.new ≡ with_user_priority k.old t new }
+    ensures sound { IsSound k.new }
+{
+    a_change_of_numbers_keeps_sound();
+    let thread = k.thread_mut(t);
+    thread.priority = new;
+    thread.threshold = Thresh::new(new.number());
+    let priority = k.effective_priority(t);
+    let threshold = k.effective_threshold(t);
+    k.ready.set_priority(t, priority, threshold);
+}
+
+/// A thread gets a new time slice, which is whole.
+fn set_slice(k: &mut Kernel, t: ThreadNo, new: u32)
+    requires sound { IsSound k.old }
+    requires live { is_thread k.old t ≡ true }
+    ensures after { k.new ≡ with_slice k.old t new }
+    ensures sound { IsSound k.new }
+{
+    a_change_of_numbers_keeps_sound();
+    let thread = k.thread_mut(t);
+    thread.slice = new;
+    thread.left = new;
+}
