@@ -1,0 +1,4 @@
+pub mod Items
+pub mod Keys
+pub mod Steps
+pub mod Words

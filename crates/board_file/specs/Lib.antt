@@ -1,0 +1,5 @@
+pub mod Path
+pub mod Field
+pub mod Board
+pub mod Answer
+pub mod Part
