@@ -1,0 +1,40 @@
+//! The number of a device, as a type that holds its range.
+use std::marker::Model;
+
+/// The number of a device, 0 to 15.
+#[derive(Clone, Copy, Debug, PartialEq, Eq)]
+pub struct DevNo(u8);
+
+impl Model for DevNo {
+    ghost use Rattle.std.specs.Prelude.{ℕ, ◌<◌};
+
+    ghost Value = { ℕ };
+
+    ghost view = { λ d. d.0 };
+
+    ghost invariant = { λ d. d.0 < 16 };
+
+    ghost inverse = { λ n. record { 0 = n } };
+}
+
+impl DevNo {
+    ghost use Rattle.std.specs.Prelude.{◌≡◌, ◌<◌};
+
+    /// The device of a number.
+    #[inline]
+    pub fn new(number: u8) -> DevNo
+        requires { number < 16 }
+        ensures { result ≡ number }
+    {
+        DevNo(number)
+    }
+
+    /// Its number.
+    #[inline]
+    pub fn number(self) -> u8
+        ensures same { result ≡ self }
+        ensures below_16 { result < 16 }
+    {
+        self.0
+    }
+}
