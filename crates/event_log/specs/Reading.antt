@@ -1,0 +1,31 @@
+-- What a reading says of a text, and what makes readings exact.
+use Rattle.std.specs.Prelude.{◌≡◌, ℕ, ◌≤◌, List, Result, Ok, Err}
+use Rattle.event_log.specs.Log.{Log, IsHistory}
+use Rattle.event_log.specs.Text.{text_of, IsLogText, IsBadLine}
+use Rattle.event_log.specs.declared.entry.Entry.{Entry}
+use Rattle.event_log.specs.declared.reading.LogErr.{LogErr}
+use Rattle.event_log.specs.declared.reading.LogErr.TheVariants.{NoMemory, BadLine}
+
+-- the text of a history is read as that history, where there is memory
+abbrev pub IsReadAs : List Entry → Result Log LogErr → Type 0
+IsReadAs es (Ok h) = h.entries ≡ es
+IsReadAs es (Err NoMemory) = Unit {0}
+IsReadAs es (Err (BadLine line)) = ⊥
+
+-- a text is refused at its first bad line, where there is memory
+abbrev pub IsRefusedAt : ℕ → Result Log LogErr → Type 0
+IsRefusedAt line (Ok h) = ⊥
+IsRefusedAt line (Err NoMemory) = Unit {0}
+IsRefusedAt line (Err (BadLine other)) = other ≡ line
+
+-- no two histories have the same text
+abbrev pub TextsApart : ℕ → Type 0
+TextsApart devices = devices ≤ 16 → (es fs : List Entry) → IsHistory devices es → IsHistory devices fs → text_of es ≡ text_of fs → es ≡ fs
+
+-- the text of a history has no bad line
+abbrev pub NoBadLine : ℕ → Type 0
+NoBadLine devices = devices ≤ 16 → (es : List Entry) (line : ℕ) (bytes : List ℕ) → IsLogText devices es bytes → IsBadLine devices line bytes → ⊥
+
+-- a text has one first bad line at most
+abbrev pub OneBadLine : ℕ → Type 0
+OneBadLine devices = devices ≤ 16 → (line other : ℕ) (bytes : List ℕ) → IsBadLine devices line bytes → IsBadLine devices other bytes → line ≡ other

@@ -1,0 +1,158 @@
+//! A history in memory, to which steps and interrupts are added.
+//!
+//! All its memory is taken by `reserve`; steps that follow one another are one entry, so there are at
+//! most twice as many entries as interrupts, and one more.
+ghost use Rattle.std.specs.Prelude.{◌≡◌, ◌+◌, ◌<◌, ◌≤◌, ◌↔◌, ◌∷◌, ◌++◌, [], IsTrue, length, slice_index_or, vec_capacity, IfOk};
+ghost use Rattle.event_log.specs.Log.{Log, IsEntry, IsHistory, IsSound, step_count, irq_count, last_steps, with_step, with_irq};
+
+use crate::entry::Entry;
+use crate::{MOST_IRQS, MOST_STEPS};
+use board_values::DevNo;
+use std::alloc::Global;
+use std::marker::Model;
+use tx_types::NoMemory;
+
+/// The steps and interrupts so far, in order, with room for a number of interrupts.
+#[derive(Drop)]
+pub struct History {
+    entries: Vec<Entry>,
+    steps: u32,
+    taken: u32,
+    irqs: u32,
+}
+
+impl Model for History {
+    ghost use Rattle.std.specs.Prelude.{◌≡◌, ◌+◌, ◌*◌, ◌≤◌, vec_capacity};
+    ghost use Rattle.event_log.specs.Log.{Log, IsSound, step_count, irq_count};
+
+    ghost Value = { Log };
+
+    ghost view = { λ h. record { entries = h.entries.items; irqs = h.irqs } };
+
+    ghost invariant = { λ h.
+        IsSound (record { entries = h.entries.items; irqs = h.irqs })
+        × (h.steps ≡ step_count h.entries.items) × (h.taken ≡ irq_count h.entries.items)
+        × (2 * h.irqs + 1 ≤ vec_capacity h.entries) };
+}
+
+impl History {
+    /// No entry yet, and room for so many interrupts.
+    pub fn reserve(alloc: Global, irqs: u32) -> Result<History, NoMemory>
+        requires { irqs ≤ 65536 }
+        ensures { IfOk result (λ h. h ≡ record { entries = []; irqs = irqs }) }
+    {
+        let entries = Vec::with_capacity(alloc, 2 * irqs as usize + 1)?;
+        Ok(History {
+            entries,
+            steps: 0,
+            taken: 0,
+            irqs,
+        })
+    }
+
+    /// One step more.
+    pub fn add_step(&mut self)
+        requires { step_count self.old.entries < 100000000 }
+        ensures entries { self.new.entries ≡ with_step self.old.entries }
+        ensures room { self.new.irqs ≡ self.old.irqs }
+    {
+        put_step(&mut self.entries);
+        self.steps += 1;
+    }
+
+    /// One interrupt more, of device d with word w.
+    pub fn add_irq(&mut self, d: DevNo, w: u32)
+        requires { irq_count self.old.entries < self.old.irqs }
+        ensures entries { self.new.entries ≡ with_irq d w self.old.entries }
+        ensures room { self.new.irqs ≡ self.old.irqs }
+    {
+        let _ = d.number();
+        self.entries.push_reserved(Entry::Irq(d, w));
+        self.taken += 1;
+    }
+
+    /// Whether an entry may go last.
+    pub(crate) fn may_add(&self, e: &Entry) -> bool
+        requires { IsEntry 16 e.now }
+        ensures { IsTrue result ↔ IsHistory 16 (self.now.entries ++ e.now ∷ []) }
+    {
+        let entries = &self.entries;
+        match e {
+            Entry::Steps(n) => last_steps(entries) == 0 && *n <= MOST_STEPS - self.steps,
+            Entry::Irq(..) => self.taken < MOST_IRQS,
+        }
+    }
+
+    /// One entry more.
+    pub(crate) fn add(&mut self, e: Entry)
+        requires history { IsHistory 16 (self.old.entries ++ e ∷ []) }
+        requires room { self.old.irqs ≡ 65536 }
+        ensures entries { self.new.entries ≡ self.old.entries ++ e ∷ [] }
+        ensures room { self.new.irqs ≡ self.old.irqs }
+    {
+        match &e {
+            Entry::Steps(n) => self.steps += *n,
+            Entry::Irq(..) => self.taken += 1,
+        }
+        self.entries.push_reserved(e);
+    }
+
+    /// How many entries there are.
+    pub fn len(&self) -> u32
+        ensures value { result ≡ length self.now.entries }
+        ensures few { result ≤ 131073 }
+    {
+        let entries = &self.entries;
+        entries.len() as u32
+    }
+
+    /// How many steps all entries are.
+    pub fn steps(&self) -> u32
+        ensures count { result ≡ step_count self.now.entries }
+        ensures sound { IsSound self.now }
+    {
+        let _ = &self.entries;
+        self.steps
+    }
+
+    /// How many interrupts there are.
+    pub fn irqs(&self) -> u32
+        ensures { result ≡ irq_count self.now.entries }
+    {
+        let _ = &self.entries;
+        self.taken
+    }
+
+    /// The entry at a place.
+    pub fn entry(&self, i: u32) -> Entry
+        requires { i < length self.now.entries }
+        ensures { result ≡ slice_index_or self.now.entries i result }
+    {
+        self.entries[i as usize]
+    }
+}
+
+/// Raises a last entry of steps by one, or opens one.
+fn put_step(entries: &mut Vec<Entry>)
+    requires history { IsHistory 16 entries.old.items }
+    requires steps { step_count entries.old.items < 100000000 }
+    requires room { length (with_step entries.old.items) ≤ vec_capacity entries.old }
+    ensures items { entries.new.items ≡ with_step entries.old.items }
+    ensures capacity { vec_capacity entries.new ≡ vec_capacity entries.old }
+{
+    let steps = last_steps(entries);
+    if steps > 0 {
+        entries.pop();
+    }
+    entries.push_reserved(Entry::Steps(steps + 1));
+}
+
+/// How many steps the last entry is; 0 where it is none of steps.
+pub(crate) fn last_steps(entries: &[Entry]) -> u32
+    ensures { result ≡ last_steps entries.now }
+{
+    match entries.last() {
+        Some(e) => e.steps(),
+        None => 0,
+    }
+}

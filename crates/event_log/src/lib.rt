@@ -1,0 +1,24 @@
+//! The log: what happened on a board, as a history of steps and interrupts, and its exact text.
+//!
+//! A history is kept in memory that it has from the start, so recording takes none. Each history has
+//! one text, and each text is that of one history or has a first bad line.
+#![tactic(auto)]
+
+mod entry;
+mod history;
+mod laws;
+mod reading;
+
+pub use entry::{Entry, entry_line};
+pub use history::History;
+pub use laws::each_history_has_one_text;
+pub use reading::{LogErr, read_log};
+
+/// The most steps that a history may have.
+pub const MOST_STEPS: u32 = 100_000_000;
+
+/// The most interrupts that a history may have.
+pub const MOST_IRQS: u32 = 65_536;
+
+#[cfg(test)]
+mod tests;
