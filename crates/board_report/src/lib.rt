@@ -1,0 +1,12 @@
+//! The text of a report, a line at a time.
+#![tactic(auto)]
+
+mod kinds;
+mod parts;
+mod report;
+mod rows;
+
+pub use report::{lines, report_line};
+
+#[cfg(test)]
+mod tests;
