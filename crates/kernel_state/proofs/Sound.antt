@@ -8,8 +8,9 @@ use Rattle.object_grants.specs.Table.{slot, with_slot}
 use Rattle.object_grants.specs.Slot.{free_slot}
 use Rattle.object_grants.specs.declared.slot.Slot.{Slot}
 use Rattle.ready_maps.specs.Sched.{Sched, is_ready, pr, th}
-use Rattle.kernel_state.specs.Kernel.{thread, has_thread, is_thread, module_of, spot}
-use Rattle.kernel_state.specs.Laws.{with_both, OneThreadChanges, OneSlotChanges}
+use Rattle.rv_core.specs.Hart.{HartState}
+use Rattle.kernel_state.specs.Kernel.{thread, with_thread, has_thread, is_thread, module_of, spot}
+use Rattle.kernel_state.specs.Laws.{with_both, OneThreadChanges, OneHartChanges, OneSlotChanges}
 use Rattle.kernel_state.specs.Sound.{IsThread, IsEntry, IsSpot, IsSlice, IsClean}
 use Rattle.kernel_state.specs.Thread.{blank_thread, is_waiting, is_state}
 use Rattle.kernel_state.specs.declared.kernel.Kernel.{Kernel}
@@ -94,6 +95,51 @@ one_thread_changes k t now s sound below live «module» changes agrees =
             ready = changes.ready u other;
             priority = changes.priority u other;
             threshold = changes.threshold u other;
+          }) (sound.entries u u_below))
+          (cases_eq u t);
+      places = λ m m_below. spot_stays k after m refl (λ c c_below is_one of_m. (is_one, modules c ∙ of_m)) (sound.places m m_below);
+    }
+
+-- a thread with other registers is right as it was
+same_but_hart : (k now : Kernel) (t : ℕ) (h : HartState) (b : Bool) → now.ready ≡ k.ready → now.objects ≡ k.objects → thread now t ≡ record (thread k t) { hart = h } → IsEntry k t b → IsEntry now t b
+same_but_hart k now t h true ready objects same sound = record {
+  owner = ap (λ (x : Thread). x.module) same ∙ (sound.owner ∙ ap (λ (os : List Slot). (slot os t).owner) (sym objects));
+  ready = ap (λ (s : Sched). is_ready s t) ready ∙ (sound.ready ∙ ap (λ (x : Thread). is_state x.state Ready) (sym same));
+  priority = subst (λ (x : Thread). x.priority < now.ready.levels) (sym same) (subst (λ (s : Sched). (thread k t).priority < s.levels) (sym ready) sound.priority);
+  threshold = subst (λ (x : Thread). x.threshold ≤ x.priority) (sym same) sound.threshold;
+  in_scheduler = ap (λ (s : Sched). pr s t) ready ∙ (sound.in_scheduler ∙ ap (λ (x : Thread). x.priority) (sym same));
+  threshold_in_scheduler = ap (λ (s : Sched). th s t) ready ∙ (sound.threshold_in_scheduler ∙ ap (λ (x : Thread). min x.threshold x.priority) (sym same));
+  slice = subst IsSlice (sym same) sound.slice;
+  held = subst (λ (x : Thread). x.held ≡ true → is_waiting x.state ≡ true) (sym same) sound.held;
+}
+same_but_hart k now t h false ready objects same sound = ap (λ (s : Sched). is_ready s t) ready ∙ sound
+
+pub one_hart_changes : OneHartChanges
+one_hart_changes k t h sound below =
+    let now : Thread = record (thread k t) { hart = h } in
+    let after = with_thread k t now in
+    let size : t < length k.threads = omega (arith, sound.threads) in
+    let here : thread after t ≡ now = get_or-set_same k.threads t now blank_thread size in
+    let there = λ (u : ℕ) (other : u ≢ t). get_or-set_other k.threads t u now blank_thread other in
+    let modules = λ (u : ℕ). ⊎_elim {C = module_of after u ≡ module_of k u}
+    (λ (same : u ≡ t). subst (λ n. module_of after n ≡ module_of k n) (sym same) (ap (λ (x : Thread). x.module) here))
+    (λ (other : u ≢ t). ap (λ (x : Thread). x.module) (there u other)) (cases_eq u t) in
+    record {
+      levels = sound.levels;
+      scheduler = sound.scheduler;
+      slots = sound.slots;
+      threads = length-set k.threads t now ∙ sound.threads;
+      spots = sound.spots;
+      clean = sound.clean;
+      entries = λ u u_below. ⊎_elim
+          (λ (same : u ≡ t). subst (λ n. IsEntry after n (is_thread k n)) (sym same) (same_but_hart k after t h (is_thread k t) refl refl here (sound.entries t below)))
+          (λ (other : u ≢ t). entry_stays k after u (is_thread k u) (record {
+            levels = refl;
+            thread = there u other;
+            owner = refl;
+            ready = refl;
+            priority = refl;
+            threshold = refl;
           }) (sound.entries u u_below))
           (cases_eq u t);
       places = λ m m_below. spot_stays k after m refl (λ c c_below is_one of_m. (is_one, modules c ∙ of_m)) (sound.places m m_below);

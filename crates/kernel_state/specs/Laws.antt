@@ -6,7 +6,8 @@ use Rattle.object_grants.specs.Table.{slot, with_slot}
 use Rattle.object_grants.specs.declared.slot.Slot.{Slot}
 use Rattle.object_grants.specs.declared.slot.SlotState.TheVariants.{Empty}
 use Rattle.ready_maps.specs.Sched.{Sched, is_ready}
-use Rattle.kernel_state.specs.Kernel.{thread, has_thread, is_thread, module_of, placed, removed}
+use Rattle.rv_core.specs.Hart.{HartState}
+use Rattle.kernel_state.specs.Kernel.{thread, with_thread, has_thread, is_thread, module_of, placed, removed}
 use Rattle.kernel_state.specs.Scheduling.{ChangesOnly}
 use Rattle.kernel_state.specs.Sound.{IsSound, IsThread, IsClean}
 use Rattle.kernel_state.specs.Thread.{is_over}
@@ -23,6 +24,11 @@ abbrev pub OneThreadChanges : Type 0
 OneThreadChanges =
     (k : Kernel) (t : ℕ) (now : Thread) (s : Sched) → IsSound k → t < 256 → is_thread k t ≡ true → now.module ≡ module_of k t
     → ChangesOnly k.ready s t → IsThread (with_both k t now s) t → IsSound (with_both k t now s)
+
+-- a thread's registers change
+abbrev pub OneHartChanges : Type 0
+OneHartChanges =
+    (k : Kernel) (t : ℕ) (h : HartState) → IsSound k → t < 256 → IsSound (with_thread k t (record (thread k t) { hart = h }))
 
 -- a slot changes, and is a thread's as before
 abbrev pub OneSlotChanges : Type 0

@@ -3,6 +3,7 @@ pub mod Kernel
 pub mod Laws
 pub mod Lending
 pub mod Outcome
+pub mod Rows
 pub mod Scheduling
 pub mod Sound
 pub mod Spot

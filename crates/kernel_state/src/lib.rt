@@ -5,6 +5,7 @@ mod answer;
 mod kernel;
 pub mod laws;
 mod naming;
+mod rows;
 mod spot;
 mod state;
 mod thread;

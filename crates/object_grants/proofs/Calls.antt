@@ -1,12 +1,12 @@
 -- Every call keeps the table's rules, and no slot goes back to a generation whose references are dead.
-use Rattle.std.proofs.Common.{◌≡◌, ℕ, ◌+◌, ◌≤◌, ◌<◌, Bool, true, false, not, nat_lt, List, [], ◌∷◌, Option, None, Some, position, refl, ap, subst, ◌∙◌, arith}
+use Rattle.std.proofs.Common.{◌≡◌, ℕ, ◌+◌, ◌-◌, ◌^◌, ◌≤◌, ◌<◌, Bool, true, false, not, nat_lt, List, [], ◌∷◌, Option, None, Some, position, refl, ap, subst, ◌∙◌, arith}
 use Rattle.std.proofs.lemmas.Bool.{and_parts, cond-true, cond-false, cond_both, eqb-true, ltb-true}
 use Rattle.std.proofs.lemmas.List.Quantifiers.{position-Some}
 use Rattle.std.proofs.lemmas.Option.{cond_some}
 use Rattle.tx_types.specs.Reference.{slot_of, generation_of}
 use Rattle.tx_types.specs.declared.kind.Kind.{Kind}
-use Rattle.object_grants.specs.Laws.{Call, Allocate, Deallocate, FreeSlot, MakeLive, MakeEmpty, Grant, Restore, called, MayCall, all_called, MayCallAll, lowest_alive, IsDead, CallsKeepTheTable, FreeEndsReferences, DeadStaysDead, DeadFindsNothing, ReferenceDiesWithItsSlot}
-use Rattle.object_grants.specs.Slot.{IsSlot, is_in, is_usable, is_own_empty, is_live_for, last_generation, free_slot}
+use Rattle.object_grants.specs.Laws.{Call, Allocate, Deallocate, FreeSlot, MakeLive, MakeEmpty, Grant, Revoke, Restore, called, MayCall, all_called, MayCallAll, lowest_alive, IsDead, CallsKeepTheTable, FreeEndsReferences, DeadStaysDead, DeadFindsNothing, ReferenceDiesWithItsSlot}
+use Rattle.object_grants.specs.Slot.{IsSlot, is_in, is_usable, is_granted, is_own_empty, is_live_for, last_generation, free_slot}
 use Rattle.object_grants.specs.Table.{IsTable, slot, names, named, named_slot, with_slot, allocated, allocated_at, after_free}
 use Rattle.object_grants.specs.declared.slot.Slot.{Slot}
 use Rattle.object_grants.specs.declared.slot.SlotState.TheVariants.{Free}
@@ -44,6 +44,10 @@ calls_keep_the_table t (MakeEmpty o) table may =
 calls_keep_the_table t (Grant m o) table may =
     let s = is_slot t o table in
     IsTable-with_slot t o _ table (record { generation = s.generation; kind = s.kind; used = s.used })
+calls_keep_the_table t (Revoke m o) table may =
+    let s = is_slot t o table in
+    let granted : IsSlot (record (slot t o) { grants = (slot t o).grants - 2 ^ m }) = record { generation = s.generation; kind = s.kind; used = s.used } in
+    IsTable-with_slot t o _ table (cond_both (is_granted m (slot t o)) _ (slot t o) IsSlot (λ _. granted) (λ _. s))
 calls_keep_the_table t (Restore o s) table may = IsTable-with_slot t o s table may.2
 
 -- the lowest generation alive doesn't fall from slot q to slot s
@@ -87,6 +91,9 @@ call_moves t (MakeLive o name) may p =
 call_moves t (MakeEmpty o) may p =
     let alive = alive_in_use (slot t o) may in one_moves t o _ (omega arith) p
 call_moves t (Grant m o) may p = one_moves t o _ (not_lower (slot t o)) p
+call_moves t (Revoke m o) may p =
+    let s = slot t o in
+    one_moves t o _ (cond_both (is_granted m s) (record s { grants = s.grants - 2 ^ m }) s (NotLower s) (λ _. not_lower s) (λ _. not_lower s)) p
 call_moves t (Restore o s) may p =
     let alive = alive_at_most (slot t o) in
     let never = may.1 in

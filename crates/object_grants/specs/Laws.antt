@@ -3,7 +3,7 @@ use Rattle.std.specs.Prelude.{ℕ, ◌≡◌, ◌+◌, ◌≤◌, ◌<◌, true,
 use Rattle.tx_types.specs.Reference.{slot_of, generation_of}
 use Rattle.tx_types.specs.declared.kind.Kind.{Kind}
 use Rattle.object_grants.specs.Slot.{IsSlot, is_in, is_empty_for, is_live_for}
-use Rattle.object_grants.specs.Table.{IsTable, slot, named_slot, with_slot, after_allocate, after_deallocate, after_free, after_make_live, after_make_empty, after_grant}
+use Rattle.object_grants.specs.Table.{IsTable, slot, named_slot, with_slot, after_allocate, after_deallocate, after_free, after_make_live, after_make_empty, after_grant, after_revoke}
 use Rattle.object_grants.specs.declared.slot.Slot.{Slot}
 use Rattle.object_grants.specs.declared.slot.SlotState.TheVariants.{Free}
 
@@ -15,6 +15,7 @@ pub data Call : Type 0 where
   MakeLive : (o : ℕ) (name : List ℕ) → Call
   MakeEmpty : (o : ℕ) → Call
   Grant : (m o : ℕ) → Call
+  Revoke : (m o : ℕ) → Call
   Restore : (o : ℕ) (s : Slot) → Call
 
 abbrev pub called : List Slot → Call → List Slot
@@ -24,6 +25,7 @@ called t (FreeSlot o) = after_free t o
 called t (MakeLive o name) = after_make_live t o name
 called t (MakeEmpty o) = after_make_empty t o
 called t (Grant m o) = after_grant t m o
+called t (Revoke m o) = after_revoke t m o
 called t (Restore o s) = with_slot t o s
 
 -- when a call may be made
@@ -34,6 +36,7 @@ MayCall t (FreeSlot o) = ⊤
 MayCall t (MakeLive o name) = is_in Free (slot t o) ≡ false
 MayCall t (MakeEmpty o) = is_in Free (slot t o) ≡ false
 MayCall t (Grant m o) = ⊤
+MayCall t (Revoke m o) = ⊤
 MayCall t (Restore o s) = (is_in Free (slot t o) ≡ true) × ((slot t o).generation ≡ 0) × IsSlot s
 
 -- a list of calls, each of which may be made in its turn

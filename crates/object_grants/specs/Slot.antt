@@ -1,5 +1,5 @@
 -- A slot of the table of kernel objects: its state, whose it is, and who else may use it.
-use Rattle.std.specs.Prelude.{ℕ, ◌==◌, ◌&&◌, ◌||◌, ◌≡◌, ◌<◌, ◌≤◌, Bool, false, not, nat_lt, List, [], None, is_some}
+use Rattle.std.specs.Prelude.{ℕ, ◌-◌, ◌^◌, if◌then◌else◌, ◌==◌, ◌&&◌, ◌||◌, ◌≡◌, ◌<◌, ◌≤◌, Bool, false, not, nat_lt, List, [], None, is_some}
 use Rattle.std.specs.Option.{option_map_or}
 use Rattle.std.specs.Str.{bytes_eq}
 use Rattle.machine_words.specs.Bits.{bits}
@@ -37,6 +37,10 @@ owns m s = not (is_in Free s) && (s.owner == m)
 -- module m was granted its object: bit m of `grants` is set
 abbrev pub is_granted : ℕ → Slot → Bool
 is_granted m s = bits s.grants m 1 == 1
+
+-- module m's grant ends: its bit of `grants` is cleared
+abbrev pub without_grant : ℕ → Slot → Slot
+without_grant m s = if is_granted m s then record s { grants = s.grants - 2 ^ m } else s
 
 -- an Empty slot that module m owns, and one of kind k
 abbrev pub is_own_empty : ℕ → Slot → Bool

@@ -3,7 +3,7 @@ use Rattle.std.specs.Prelude.{ℕ, ◌≡◌, ◌+◌, ◌==◌, ◌&&◌, Bool,
 use Rattle.std.specs.List.{slice_index_or}
 use Rattle.tx_types.specs.Reference.{reference, slot_of, generation_of}
 use Rattle.tx_types.specs.declared.kind.Kind.{Kind}
-use Rattle.object_grants.specs.Slot.{IsSlot, is_usable, is_own_empty, free_slot}
+use Rattle.object_grants.specs.Slot.{IsSlot, is_usable, is_own_empty, free_slot, without_grant}
 use Rattle.object_grants.specs.declared.slot.Slot.{Slot}
 use Rattle.object_grants.specs.declared.slot.SlotState.TheVariants.{Empty, Live}
 
@@ -67,3 +67,7 @@ after_deallocate slots m r = if named slots r (is_own_empty m) then after_free s
 abbrev pub after_grant : List Slot → ℕ → ℕ → List Slot
 after_grant slots m o =
     with_slot slots o (record (slot slots o) { grants = bit_or (slot slots o).grants (2 ^ m) })
+
+-- module m's grant of the object ends
+abbrev pub after_revoke : List Slot → ℕ → ℕ → List Slot
+after_revoke slots m o = with_slot slots o (without_grant m (slot slots o))

@@ -5,7 +5,7 @@
 ghost use Rattle.std.specs.Prelude.{◌≡◌, ◌<◌, true, false, replicate, position, IfOk, IfSome};
 ghost use Rattle.std.specs.Option.{option_map};
 ghost use Rattle.object_grants.specs.Slot.{IsSlot, is_in, is_usable, is_own_empty, is_empty_for, is_live_for, has_name, owns, free_slot, last_generation};
-ghost use Rattle.object_grants.specs.Table.{IsTable, slot, ref_of, named, named_slot, with_slot, after_allocate, after_make_live, after_make_empty, after_free, after_deallocate, after_grant};
+ghost use Rattle.object_grants.specs.Table.{IsTable, slot, ref_of, named, named_slot, with_slot, after_allocate, after_make_live, after_make_empty, after_free, after_deallocate, after_grant, after_revoke};
 ghost use Rattle.object_grants.specs.declared.slot.SlotState.TheVariants.{Free};
 
 use crate::SLOTS;
@@ -160,6 +160,13 @@ impl Objects {
     {
         let slot = &mut self.slots[o.place()];
         slot.grants |= 1 << m.number();
+    }
+
+    /// Ends a module's grant of the object of a slot, where it has one.
+    pub fn revoke(&mut self, m: ModNo, o: ObjNo)
+        ensures { self.new ≡ after_revoke self.old m o }
+    {
+        self.slots[o.place()].revoke(m);
     }
 
     /// Sets up a slot that was never used.

@@ -3,7 +3,7 @@
 //! A slot is Free, or Empty once it is allocated, or Live once its object is created.
 ghost use Rattle.std.specs.Prelude.{◌≡◌, ◌==◌};
 ghost use Rattle.tx_types.specs.Reference.{generation_of};
-ghost use Rattle.object_grants.specs.Slot.{slot_state_number, is_in, is_kind, is_usable, is_granted, owns, free_slot, is_own_empty, is_live_for, has_name};
+ghost use Rattle.object_grants.specs.Slot.{slot_state_number, is_in, is_kind, is_usable, is_granted, without_grant, owns, free_slot, is_own_empty, is_live_for, has_name};
 
 use tx_types::{Kind, ModNo, Name, ObjRef};
 
@@ -96,6 +96,15 @@ impl Slot {
         ensures { result ≡ is_granted m self.now }
     {
         self.grants >> m.number() & 1 == 1
+    }
+
+    /// Ends a module's grant of its object.
+    pub fn revoke(&mut self, m: ModNo)
+        ensures { self.new ≡ without_grant m self.old }
+    {
+        if self.is_granted(m) {
+            self.grants -= 1 << m.number();
+        }
     }
 
     /// Whether it is at the generation of a reference.

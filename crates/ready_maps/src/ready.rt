@@ -174,6 +174,20 @@ impl Ready {
         self.state.is_held(t)
     }
 
+    /// The ready threads by priority, and in their order within one: those that run or are held too.
+    pub fn ready_list(&self, alloc: Global) -> Result<Vec<ThreadNo>, NoMemory>
+        ensures { IfOk result (λ ts. ts.items ≡ self.now.order) }
+    {
+        self.state.ready_list(alloc)
+    }
+
+    /// The holders by priority.
+    pub fn held_list(&self, alloc: Global) -> Result<Vec<ThreadNo>, NoMemory>
+        ensures { IfOk result (λ ts. ts.items ≡ self.now.held) }
+    {
+        self.state.held_list(alloc)
+    }
+
     /// Sets up which threads are ready, which of them runs, and the holders by priority.
     pub fn restore(&mut self, ready: &[ThreadNo], run: Option<ThreadNo>, held: &[ThreadNo])
         requires nothing_ready { self.old.order ≡ [] }

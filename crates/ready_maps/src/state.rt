@@ -384,6 +384,20 @@ impl State {
         lists::copy(&mut self.held, held);
     }
 
+    /// The ready threads by priority, and in their order within one.
+    pub(crate) fn ready_list(&self, alloc: Global) -> Result<Vec<ThreadNo>, NoMemory>
+        ensures { IfOk result (λ ts. ts.items ≡ self.now.order) }
+    {
+        Ok(self.order.to_vec(alloc)?)
+    }
+
+    /// The holders by priority.
+    pub(crate) fn held_list(&self, alloc: Global) -> Result<Vec<ThreadNo>, NoMemory>
+        ensures { IfOk result (λ ts. ts.items ≡ self.now.held) }
+    {
+        Ok(self.held.to_vec(alloc)?)
+    }
+
     /// Sets up which threads are ready, which of them runs, and the holders by priority.
     pub(crate) fn restore(&mut self, ready: &[ThreadNo], run: Option<ThreadNo>, held: &[ThreadNo])
         requires nothing_ready { self.old.order ≡ [] }

@@ -13,7 +13,7 @@ use region_guard::Guard;
 use tx_types::{Code, ObjNo, State, ThreadNo};
 
 /// Starts a suspended thread: it is ready, and its time slice is whole again.
-pub(crate) fn start(k: &mut Kernel, t: ThreadNo)
+pub fn start_thread(k: &mut Kernel, t: ThreadNo)
     requires sound { IsSound k.old }
     requires live { is_thread k.old t ≡ true }
     requires suspended { is_state (thread k.old t).state Suspended ≡ true }
@@ -81,7 +81,7 @@ pub fn resume_object(k: &mut Kernel, g: &mut Guard, o: ObjNo) -> Code
         k.thread_mut(o).held = false;
         Code::SUSPEND_LIFTED
     } else if k.state(o) == State::Suspended {
-        start(k, o);
+        start_thread(k, o);
         Code::SUCCESS
     } else {
         Code::RESUME_ERROR

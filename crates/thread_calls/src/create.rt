@@ -9,7 +9,7 @@ ghost use Rattle.kernel_state.specs.Sound.{IsSound};
 ghost use Rattle.thread_calls.specs.Create.{block_at, block_refusal, opening, spec_of, created};
 ghost use Rattle.thread_calls.specs.ThreadRows.{creation, thread_create_row};
 
-use crate::changes::start;
+use crate::changes::start_thread;
 use call_arguments::{name_at, nth_word};
 use kernel_state::{Answer, Args, Kernel, ThreadSpec};
 use region_guard::{Access, Guard};
@@ -152,7 +152,7 @@ fn make(k: &mut Kernel, by: ThreadNo, o: ObjNo, name: Name, b: &ThreadBlock)
     let spec = spec_of(k, by, b);
     k.place_thread(o, name, spec);
     if b.auto == 1 {
-        start(k, o);
+        start_thread(k, o);
     }
 }
 

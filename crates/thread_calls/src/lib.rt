@@ -11,7 +11,7 @@ mod numbers;
 mod objects;
 mod threads;
 
-pub use changes::{end_thread, resume_object};
+pub use changes::{end_thread, resume_object, start_thread};
 pub use create::thread_create;
 pub use numbers::{
     thread_info_get, thread_preemption_change, thread_priority_change, thread_time_slice_change,

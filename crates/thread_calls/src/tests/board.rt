@@ -4,7 +4,7 @@
 ghost use Rattle.std.specs.Prelude.{◌≡◌, IfOk, Some};
 ghost use Rattle.kernel_state.specs.Sound.{IsSound};
 
-use crate::changes::start;
+use crate::changes::start_thread;
 use crate::laws::a_change_of_slots_keeps_sound;
 use crate::{
     object_allocate, object_deallocate, object_pointer_get, thread_complete, thread_create,
@@ -339,7 +339,7 @@ fn add_thread(k: &mut Kernel, m: ModNo, o: ObjNo, priority: u16)
         slice: 5,
     };
     k.place_thread(o, Name::empty(), spec);
-    start(k, o);
+    start_thread(k, o);
 }
 
 /// What of an answer is written to a0.
