@@ -1,0 +1,5 @@
+pub mod Calls
+pub mod EachRow
+pub mod Numbers
+pub mod Steps
+pub mod Writes

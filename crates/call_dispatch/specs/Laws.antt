@@ -1,0 +1,42 @@
+-- What holds of every call, whatever it asks for.
+use Rattle.std.specs.Prelude.{◌≡◌, ◌≢◌, ℕ, List, None, Some}
+use Rattle.tx_types.specs.Code.{success, suspend_lifted}
+use Rattle.region_guard.specs.Memory.{Memory, IsSound}
+use Rattle.kernel_state.specs.Kernel.{thread}
+use Rattle.kernel_state.specs.Outcome.{answered}
+use Rattle.kernel_state.specs.declared.answer.Answer.TheVariants.{Code}
+use Rattle.kernel_state.specs.declared.kernel.Kernel.{Kernel}
+use Rattle.call_dispatch.specs.Ecall.{number_asked, with_a0, dispatched}
+use Rattle.call_dispatch.specs.Results.{WritesAlone, call_result}
+use Rattle.call_dispatch.specs.Rows.{call_row, feature_not_enabled}
+use Rattle.call_dispatch.specs.Service.{service_number, service_of}
+use Rattle.call_dispatch.specs.declared.service.Service.{Service}
+
+-- a service is found by its number, and by no other
+abbrev pub NumberNamesItsService : Type 0
+NumberNamesItsService = (s : Service) → service_of (service_number s) ≡ Some s
+
+abbrev pub ServiceHasItsNumber : Type 0
+ServiceHasItsNumber = (n : ℕ) (s : Service) → service_of n ≡ Some s → service_number s ≡ n
+
+-- no byte changes but those of its result, where the caller's module may store there
+abbrev pub CallWritesItsResultAlone : Type 0
+CallWritesItsResultAlone =
+    (k : Kernel) (g : Memory) (by n : ℕ) (a : List ℕ) → IsSound g → WritesAlone (call_result n k g by a) g (call_row n k g by a).memory
+
+-- a status that is neither SUCCESS nor SUSPEND_LIFTED is a refusal, and comes with no change
+abbrev pub RefusalChangesNothing : Type 0
+RefusalChangesNothing =
+    (k : Kernel) (g : Memory) (by n : ℕ) (a : List ℕ) (c : ℕ) → (call_row n k g by a).answer ≡ Code c → c ≢ success → c ≢ suspend_lifted
+    → call_row n k g by a ≡ answered k g c
+
+-- then the caller's a0 is the refusal, and nothing else changes
+abbrev pub RefusedCallChangesA0Alone : Type 0
+RefusedCallChangesA0Alone =
+    (k : Kernel) (g : Memory) (t c : ℕ) → (dispatched k g t).answer ≡ Code c → c ≢ success → c ≢ suspend_lifted
+    → dispatched k g t ≡ answered (with_a0 k t c) g c
+
+abbrev pub NoRowChangesA0Alone : Type 0
+NoRowChangesA0Alone =
+    (k : Kernel) (g : Memory) (t : ℕ) → service_of (number_asked (thread k t).hart) ≡ None
+    → dispatched k g t ≡ answered (with_a0 k t feature_not_enabled) g feature_not_enabled

@@ -1,0 +1,5 @@
+pub mod Ecall
+pub mod Laws
+pub mod Results
+pub mod Rows
+pub mod Service

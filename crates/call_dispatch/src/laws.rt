@@ -1,0 +1,29 @@
+//! What holds of every call, whatever it asks for: each function's contract is a law.
+ghost use Rattle.call_dispatch.specs.Laws.{NumberNamesItsService, ServiceHasItsNumber, CallWritesItsResultAlone, RefusalChangesNothing, RefusedCallChangesA0Alone, NoRowChangesA0Alone};
+
+use flat_ram::a_write_changes_its_range_alone;
+use region_guard::{a_write_changes_its_bytes_alone, what_may_be_used_is_in_ram};
+
+/// Each service has one number, which is no other's.
+pub fn a_service_has_one_number()
+    ensures names { NumberNamesItsService }
+    ensures has { ServiceHasItsNumber }
+{}
+
+/// A call changes no byte of memory outside of the range that its row names for its result, and none
+/// at all where the caller's module may not store there.
+pub fn a_call_writes_its_result_alone()
+    ensures { CallWritesItsResultAlone }
+{
+    a_write_changes_its_range_alone();
+    a_write_changes_its_bytes_alone();
+    what_may_be_used_is_in_ram();
+}
+
+/// A call that is refused changes the a0 of its caller and nothing else: where its status is neither
+/// SUCCESS nor SUSPEND_LIFTED, and where its number has no row.
+pub fn a_refused_call_changes_its_a0_alone()
+    ensures row { RefusalChangesNothing }
+    ensures refused { RefusedCallChangesA0Alone }
+    ensures no_row { NoRowChangesA0Alone }
+{}

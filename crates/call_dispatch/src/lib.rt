@@ -1,0 +1,16 @@
+//! The way from a thread's ECALL to the service that it asks for.
+//!
+//! Register a7 has the number of the service, a0 to a6 its arguments, and a0 gets the answer. No other
+//! register of the caller is written here.
+#![tactic(auto)]
+
+mod ecall;
+pub mod laws;
+mod rows;
+mod service;
+
+pub use ecall::dispatch;
+pub use service::Service;
+
+#[cfg(test)]
+mod tests;
