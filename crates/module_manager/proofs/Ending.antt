@@ -1,0 +1,96 @@
+-- A thread of a module ends: the kernel stays sound, and at last all threads of the module are over.
+use Rattle.std.proofs.Common.{◌≡◌, ◌≢◌, ℕ, suc, ◌<◌, ◌==◌, ◌&&◌, true, false, List, refl, sym, ap, ◌∙◌, subst, inr, ⊎_elim, arith}
+use Rattle.std.proofs.lemmas.Bool.{and_parts, and_from, cases_eq, cases_lt, cond_both, eq-eqb, eqb-true, false≢true}
+use Rattle.std.proofs.lemmas.List.{get_or-set_same, get_or-set_other, get_or_past}
+use Rattle.tx_types.specs.declared.state.State.TheVariants.{Terminated}
+use Rattle.object_grants.specs.Slot.{free_slot}
+use Rattle.object_grants.specs.Table.{slot}
+use Rattle.object_grants.specs.declared.slot.Slot.{Slot}
+use Rattle.ready_maps.specs.Sched.{Sched}
+use Rattle.kernel_state.specs.Kernel.{thread, has_thread, is_thread, module_of}
+use Rattle.kernel_state.specs.Laws.{with_both}
+use Rattle.kernel_state.specs.Sound.{IsSound}
+use Rattle.kernel_state.specs.Thread.{blank_thread, is_over}
+use Rattle.kernel_state.specs.declared.kernel.Kernel.{Kernel}
+use Rattle.kernel_state.specs.declared.thread.Thread.{Thread}
+use Rattle.thread_calls.specs.Changes.{ended}
+use Rattle.thread_calls.specs.Laws.{EndKeepsSound}
+use Rattle.module_manager.specs.Halt.{all_ended, ending}
+use Rattle.module_manager.proofs.Folds.{each_below_keeps}
+
+-- what is a thread has a number below 256
+pub below_256 : (k : Kernel) (t : ℕ) → IsSound k → is_thread k t ≡ true → t < 256
+below_256 k t sound live = ⊎_elim (λ below. below) (λ past.
+    absurd (false≢true (sym (ap has_thread (get_or_past k.objects t (free_slot 0) (omega (arith, sound.slots)))) ∙ live))) (cases_lt t 256)
+
+-- a thread that goes on, as it is terminated
+abbrev terminated : Kernel → ℕ → Thread
+terminated k t = record (thread k t) { state = Terminated; held = false }
+
+-- a thread isn't the module's, or is over already; or it goes on, and is terminated, whatever the scheduler becomes
+pub by_ending : (m : ℕ) (k : Kernel) (t : ℕ) (P : Kernel → Type 0)
+    → ((is_thread k t && (module_of k t == m)) ≡ false → P k)
+    → (is_thread k t ≡ true → module_of k t ≡ m → is_over (thread k t).state ≡ true → P k)
+    → (is_thread k t ≡ true → module_of k t ≡ m → (s : Sched) → P (with_both k t (terminated k t) s))
+    → P (ending m k t)
+by_ending m k t P other over goes_on =
+    cond_both (is_thread k t && (module_of k t == m)) (ended k t Terminated) k P
+    (λ own. let parts = and_parts (is_thread k t) (module_of k t == m) own in
+    let of_m = eqb-true (module_of k t) m parts.1 in
+    cond_both (is_over (thread k t).state) k _ P (over parts.0 of_m) (λ _. goes_on parts.0 of_m _))
+    other
+
+-- no slot and no other thread changes
+pub ending-objects : (m : ℕ) (k : Kernel) (t : ℕ) → (ending m k t).objects ≡ k.objects
+ending-objects m k t = by_ending m k t (λ j. j.objects ≡ k.objects) (λ _. refl) (λ _ _ _. refl) (λ _ _ _. refl)
+
+pub ending-other : (m : ℕ) (k : Kernel) (t u : ℕ) → u ≢ t → thread (ending m k t) u ≡ thread k u
+ending-other m k t u other =
+    by_ending m k t (λ j. thread j u ≡ thread k u) (λ _. refl) (λ _ _ _. refl)
+    (λ _ _ _. get_or-set_other k.threads t u (terminated k t) blank_thread other)
+
+-- a thread of the module is over then
+pub ending-over : (m : ℕ) (k : Kernel) (t : ℕ) → IsSound k → is_thread k t ≡ true → module_of k t ≡ m → is_over (thread (ending m k t) t).state ≡ true
+ending-over m k t sound live own =
+    let below = below_256 k t sound live in
+    by_ending m k t (λ j. is_over (thread j t).state ≡ true)
+    (λ none. absurd (false≢true (sym none ∙ and_from (is_thread k t) (module_of k t == m) live (eq-eqb (module_of k t) m own))))
+    (λ _ _ over. over)
+    (λ _ _ _. ap (λ (x : Thread). is_over x.state) (get_or-set_same k.threads t (terminated k t) blank_thread (omega (arith, sound.threads))))
+
+-- every thread keeps its module
+pub ending-module : (m : ℕ) (k : Kernel) (t u : ℕ) → IsSound k → module_of (ending m k t) u ≡ module_of k u
+ending-module m k t u sound =
+    ⊎_elim (λ (same : u ≡ t). subst (λ n. module_of (ending m k t) n ≡ module_of k n) (sym same)
+    (by_ending m k t (λ j. module_of j t ≡ module_of k t) (λ _. refl) (λ _ _ _. refl)
+    (λ live _ _. let below = below_256 k t sound live in
+    ap (λ (x : Thread). x.module) (get_or-set_same k.threads t (terminated k t) blank_thread (omega (arith, sound.threads))))))
+    (λ (other : u ≢ t). ap (λ (x : Thread). x.module) (ending-other m k t u other)) (cases_eq u t)
+
+pub ending-sound : EndKeepsSound → (m : ℕ) (k : Kernel) (t : ℕ) → IsSound k → IsSound (ending m k t)
+ending-sound ends m k t sound =
+    cond_both (is_thread k t && (module_of k t == m)) (ended k t Terminated) k IsSound
+    (λ own. ends k t Terminated sound (and_parts (is_thread k t) (module_of k t == m) own).0 (inr refl)) (λ _. sound)
+
+-- no thread of the module goes on
+abbrev pub AreOver : Kernel → ℕ → Type 0
+AreOver k m = (t : ℕ) → is_thread k t ≡ true → module_of k t ≡ m → is_over (thread k t).state ≡ true
+
+-- of the threads of smaller numbers, those of the module are over
+abbrev AreOverBelow : ℕ → ℕ → Kernel → Type 0
+AreOverBelow m n k = (t : ℕ) → t < n → is_thread k t ≡ true → module_of k t ≡ m → is_over (thread k t).state ≡ true
+
+one_more : (m n : ℕ) (k : Kernel) → IsSound k → AreOverBelow m n k → AreOverBelow m (suc n) (ending m k n)
+one_more m n k sound below_n t below live own =
+    let was_live : is_thread k t ≡ true = subst (λ (slots : List Slot). has_thread (slot slots t) ≡ true) (ending-objects m k n) live in
+    let was_own : module_of k t ≡ m = sym (ending-module m k n t sound) ∙ own in
+    ⊎_elim (λ (same : t ≡ n). subst (λ j. is_over (thread (ending m k n) j).state ≡ true) (sym same)
+    (ending-over m k n sound (subst (λ j. is_thread k j ≡ true) same was_live) (subst (λ j. module_of k j ≡ m) same was_own)))
+    (λ (other : t ≢ n). subst (λ (x : Thread). is_over x.state ≡ true) (sym (ending-other m k n t other)) (below_n t (omega arith) was_live was_own))
+    (cases_eq t n)
+
+pub all_ended-sound-over : EndKeepsSound → (m : ℕ) (k : Kernel) → IsSound k → IsSound (all_ended k m) × AreOver (all_ended k m) m
+all_ended-sound-over ends m k sound =
+    let all = each_below_keeps (λ n j. IsSound j × AreOverBelow m n j) (ending m) 256
+    (λ n j below kept. (ending-sound ends m j n kept.0, one_more m n j kept.0 kept.1)) k (sound, λ t below. absurd (omega arith)) in
+    (all.0, λ t live own. all.1 t (below_256 (all_ended k m) t all.0 live) live own)

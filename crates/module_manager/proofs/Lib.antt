@@ -1,0 +1,7 @@
+pub mod Clearing
+pub mod Ending
+pub mod Folds
+pub mod Halted
+pub mod NewSlot
+pub mod Started
+pub mod Ungranting

@@ -1,0 +1,31 @@
+-- A start writes its module's data region alone.
+use Rattle.std.proofs.Common.{◌≡◌, ℕ, List, replicate, refl, sym, subst}
+use Rattle.std.proofs.lemmas.Bool.{cond_both}
+use Rattle.std.proofs.lemmas.List.{length-replicate}
+use Rattle.flat_ram.specs.Laws.{IsOutside}
+use Rattle.module_loader.specs.Want.{want_of}
+use Rattle.region_guard.specs.Laws.{BytesOutsideStay, UsedIsInRam}
+use Rattle.region_guard.specs.Memory.{Memory, byte}
+use Rattle.region_guard.specs.declared.region.Access.TheVariants.{Store}
+use Rattle.kernel_state.specs.declared.kernel.Kernel.{Kernel}
+use Rattle.module_manager.specs.Laws.{StartKeepsRegions, StartWritesItsData}
+use Rattle.module_manager.specs.Modules.{module_at}
+use Rattle.module_manager.specs.Start.{StartOutcome, can_start, start_row, zeroed}
+use Rattle.module_manager.specs.declared.modules.Module.{Module}
+
+-- what holds of the memory that stays, and of the one with its data region zeroed
+by_start : (rows : List Module) (k : Kernel) (g : Memory) (m : ℕ) (P : Memory → Type 0) → P (zeroed g (module_at rows m)) → P g → P (start_row rows k g m).memory
+unfolding start_row
+by_start rows k g m P after before =
+    cond_both (can_start k (module_at rows m)) _ _ (λ (o : StartOutcome). P o.memory) (λ _. after) (λ _. before)
+
+pub start_keeps_regions : StartKeepsRegions
+start_keeps_regions rows k g m = by_start rows k g m (λ (now : Memory). now.regions ≡ g.regions) refl refl
+
+pub start_writes_its_data : UsedIsInRam → BytesOutsideStay → StartWritesItsData
+start_writes_its_data in_ram outside rows k g m x sound some own out =
+    let r = module_at rows m in
+    let n = (want_of r.preamble).data_bytes in
+    let lies = in_ram g m Store r.placed.data_base n sound some own in
+    by_start rows k g m (λ (now : Memory). byte now x ≡ byte g x)
+    (outside g (replicate n 0) r.placed.data_base x lies.from_base (subst (λ i. IsOutside r.placed.data_base i x) (sym (length-replicate n 0)) out)) refl

@@ -1,0 +1,4 @@
+pub mod Halt
+pub mod Laws
+pub mod Modules
+pub mod Start
