@@ -1,4 +1,7 @@
 pub mod Digits
 pub mod Entries
+pub mod EventLists
 pub mod Lines
+pub mod LogIn
 pub mod Unique
+pub mod WorkedLogs

@@ -1,3 +1,6 @@
+pub mod Events
 pub mod Log
+pub mod LogIn
+pub mod Plain
 pub mod Reading
 pub mod Text

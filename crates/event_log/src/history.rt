@@ -123,6 +123,15 @@ impl History {
         self.taken
     }
 
+    /// For how many interrupts in all there is room.
+    pub fn room(&self) -> u32
+        ensures same { result ≡ self.now.irqs }
+        ensures at_most { result ≤ 65536 }
+    {
+        let _ = &self.entries;
+        self.irqs
+    }
+
     /// The entry at a place.
     pub fn entry(&self, i: u32) -> Entry
         requires { i < length self.now.entries }

@@ -1,11 +1,41 @@
 //! What holds of every log: each function's contract is a law.
-ghost use Rattle.std.specs.Prelude.{ℕ};
-ghost use Rattle.event_log.specs.Reading.{TextsApart, NoBadLine, OneBadLine};
+ghost use Rattle.std.specs.Prelude.{◌≡◌, ℕ, ◌+◌, List, [], ◌∷◌, ◌++◌};
+ghost use Rattle.event_log.specs.Events.{Step, Irq, events_of, words_in, words_of};
+ghost use Rattle.event_log.specs.Log.{step_count, irq_count, with_step, with_irq};
+ghost use Rattle.event_log.specs.Reading.{TextsApart, NoBadLine, OneBadLine, ReadsBack, SaysTrue};
+ghost use Rattle.event_log.specs.declared.entry.Entry.{Entry};
+ghost use Rattle.event_log.specs.declared.entry.Entry.TheVariants as entry;
 
 /// A history has the one text that its entries' lines make, and no other history has that text. A
-/// text is that of a history or has a bad line, not both, and one bad line is the first.
+/// text is that of a history or has a bad line, not both, and one bad line is the first: `log_in`
+/// says which history, or which line.
 pub fn each_history_has_one_text()
     ensures apart { (devices : ℕ) → TextsApart devices }
     ensures no_bad_line { (devices : ℕ) → NoBadLine devices }
     ensures one_bad_line { (devices : ℕ) → OneBadLine devices }
+    ensures read_back { (devices : ℕ) → ReadsBack devices }
+    ensures says_true { (devices : ℕ) → SaysTrue devices }
+{}
+
+/// A history with one step or one interrupt more is the same events and that one behind them, and
+/// counts one more.
+pub fn a_history_grows_by_one_event()
+    ensures step { (es : List Entry) → events_of (with_step es) ≡ events_of es ++ Step ∷ [] }
+    ensures irq { (d w : ℕ) (es : List Entry) →
+        events_of (with_irq d w es) ≡ events_of es ++ Irq d w ∷ [] }
+    ensures steps_by_step { (es : List Entry) → step_count (with_step es) ≡ step_count es + 1 }
+    ensures irqs_by_step { (es : List Entry) → irq_count (with_step es) ≡ irq_count es }
+    ensures steps_by_irq { (d w : ℕ) (es : List Entry) →
+        step_count (with_irq d w es) ≡ step_count es }
+    ensures irqs_by_irq { (d w : ℕ) (es : List Entry) →
+        irq_count (with_irq d w es) ≡ irq_count es + 1 }
+{}
+
+/// A step leaves the words of each device as they are, and an interrupt puts its word last of its
+/// device's.
+pub fn an_interrupt_is_one_word_more()
+    ensures step { (device : ℕ) (es : List Entry) →
+        words_of device (with_step es) ≡ words_of device es }
+    ensures irq { (device d w : ℕ) (es : List Entry) →
+        words_of device (with_irq d w es) ≡ words_of device es ++ words_in device (entry.Irq d w) }
 {}

@@ -1,18 +1,25 @@
 //! The log: what happened on a board, as a history of steps and interrupts, and its exact text.
 //!
 //! A history is kept in memory that it has from the start, so recording takes none. Each history has
-//! one text, and each text is that of one history or has a first bad line.
+//! one text, and each text is that of one history or has a first bad line. A history can be made again,
+//! event by event, on whatever stands for a world.
 #![tactic(auto)]
 
 mod entry;
 mod history;
 mod laws;
+mod plain;
 mod reading;
+mod replayer;
 
 pub use entry::{Entry, entry_line};
 pub use history::History;
-pub use laws::each_history_has_one_text;
+pub use laws::{
+    a_history_grows_by_one_event, an_interrupt_is_one_word_more, each_history_has_one_text,
+};
+pub use plain::PlainReplayer;
 pub use reading::{LogErr, read_log};
+pub use replayer::{Replayer, replay};
 
 /// The most steps that a history may have.
 pub const MOST_STEPS: u32 = 100_000_000;

@@ -5,7 +5,8 @@
 ghost use Rattle.std.specs.Prelude.{◌≡◌, ◌≢◌, ℕ, List, ◌+◌, ◌<◌, ◌≤◌, ◌^◌, ◌∷◌, ◌++◌, [], Some, IfOk, IfErr, IfSome, MatchOption, IsTrue, ◌↔◌, ◌==◌, position, length, take, All};
 ghost use Rattle.std.specs.Str.Parse.{AllDigits, digits_value};
 ghost use Rattle.event_log.specs.Log.{IsEntry, IsHistory, steps_in};
-ghost use Rattle.event_log.specs.Reading.{IsReadAs, IsRefusedAt};
+ghost use Rattle.event_log.specs.LogIn.{log_in};
+ghost use Rattle.event_log.specs.Reading.{Answers, IsReadAs, IsRefusedAt};
 ghost use Rattle.event_log.specs.Text.{line_of, numbers_of, Ends, GoesOn, IsLogText, IsBadLine, TellsBadLine};
 ghost use Rattle.event_log.specs.declared.entry.Entry.{Entry};
 ghost use Rattle.event_log.specs.declared.entry.Entry.TheVariants.{Irq};
@@ -43,6 +44,7 @@ pub fn read_log(alloc: Global, bytes: &[u8], devices: u8) -> Result<History, Log
     ensures good { IfOk result (λ h. IsLogText devices h.entries bytes.now) }
     ensures room { IfOk result (λ h. h.irqs ≡ 65536) }
     ensures bad { IfErr result (TellsBadLine devices bytes.now) }
+    ensures means { Answers (log_in devices bytes.now) result }
     ensures each_history { (es : List Entry) → IsLogText devices es bytes.now → IsReadAs es result }
     ensures each_bad_line { (line : ℕ) → IsBadLine devices line bytes.now → IsRefusedAt line result }
 {

@@ -1,9 +1,31 @@
-//! Histories of each pair of entries, lines at the limits of their digits, and logs good and bad.
-
-use crate::{Entry, History, LogErr, entry_line, read_log};
+//! Histories of each pair of entries, lines at the limits of their digits, logs good and bad, and a
+//! history made again.
+use crate::{Entry, History, LogErr, PlainReplayer, Replayer, entry_line, read_log, replay};
 use board_values::DevNo;
+use std::alloc::{AllocError, Global};
 use std::test::Fail;
 use tx_types::Line;
+
+/// What is left of a text behind the lines of a history, where it begins with them.
+fn behind_lines<'a>(h: &History, text: &'a str) -> Option<&'a str> {
+    let mut rest = text;
+    for i in 0..h.len() {
+        let mut line = Line::new();
+        entry_line(h.entry(i), &mut line);
+        rest = rest.strip_prefix(line.as_str())?;
+    }
+    Some(rest)
+}
+
+/// A piece so many times, and then an end.
+fn repeated(alloc: Global, piece: &str, times: u32, end: &str) -> Result<String, AllocError> {
+    let mut text = String::new(alloc);
+    for _ in 0..times {
+        text.push_str(piece)?;
+    }
+    text.push_str(end)?;
+    Ok(text)
+}
 
 #[test]
 fn steps_in_a_row_are_one_entry(rt: HostRuntime) -> Result<(), Fail> {
@@ -67,17 +89,12 @@ fn a_log_is_read_and_comes_back(rt: HostRuntime) -> Result<(), Fail> {
         "S 100000000\n",
         "I 2 00000005\n",
         "S 10\nI 0 00000000\n",
+        "I 0 00000000\nS 10\n",
         "I 1 ffffffff\nI 0 89abcdef\nS 7\n",
         "S 1\nI 2 00000001\nS 99999999\nI 2 00000001\n",
     ] {
         let h = read_log(rt.alloc(), text.as_bytes(), 3).map_err(|_| "refused")?;
-        let mut rest = text;
-        for i in 0..h.len() {
-            let mut line = Line::new();
-            entry_line(h.entry(i), &mut line);
-            rest = rest.strip_prefix(line.as_str()).ok_or("another line")?;
-        }
-        assert_eq!(rt; rest, "");
+        assert_eq!(rt; behind_lines(&h, text), Some(""), "{text:?}");
     }
     Ok(())
 }
@@ -89,6 +106,8 @@ fn the_first_bad_line_is_named(rt: HostRuntime) -> Result<(), Fail> {
         ("S 0\n", 1),
         ("S 01\n", 1),
         ("S +1\n", 1),
+        ("S -1\n", 1),
+        ("S 1a\n", 1),
         ("S \n", 1),
         ("S\n", 1),
         ("\n", 1),
@@ -96,14 +115,20 @@ fn the_first_bad_line_is_named(rt: HostRuntime) -> Result<(), Fail> {
         ("S 1", 1),
         ("S 1\nI 0 00000000", 2),
         ("S 1\r\n", 1),
+        ("I 0 00000000\r\n", 1),
         ("S  1\n", 1),
+        ("S\t1\n", 1),
         (" S 1\n", 1),
         ("S 1 \n", 1),
+        ("S 1 2\n", 1),
         ("s 1\n", 1),
+        ("i 0 00000000\n", 1),
         ("I 9 00000000\n", 1),
         ("I 3 00000000\n", 1),
         ("I 00 00000000\n", 1),
         ("I 0  00000000\n", 1),
+        ("I  00000000\n", 1),
+        ("I 0\n", 1),
         ("I 0 0000000A\n", 1),
         ("I 0 0000000\n", 1),
         ("I 0 000000000\n", 1),
@@ -120,18 +145,74 @@ fn the_first_bad_line_is_named(rt: HostRuntime) -> Result<(), Fail> {
 }
 
 #[test]
-fn there_are_at_most_65536_interrupts(rt: HostRuntime) -> Result<(), Fail> {
-    let mut text = Vec::new(rt.alloc());
-    for _ in 0..65_536 {
-        text.extend_from_slice(b"I 15 0000000f\n")?;
+fn logs_at_their_limits(rt: HostRuntime) -> Result<(), Fail> {
+    let both = "S 1525\nI 15 ffffffff\n";
+    for (piece, times, end, read) in [
+        ("", 0, "", Ok(0)),
+        ("", 0, "S 100000000\n", Ok(1)),
+        ("", 0, "S 100000001\n", Err(LogErr::BadLine(1))),
+        ("I 16 00000000\n", 1, "", Err(LogErr::BadLine(1))),
+        ("I 15 ffffffff\n", 65_536, "", Ok(65_536)),
+        ("I 15 ffffffff\n", 65_536, "S 100000000\n", Ok(65_537)),
+        ("I 15 ffffffff\n", 65_537, "", Err(LogErr::BadLine(65_537))),
+        (both, 65_536, "S 57600\n", Ok(131_073)),
+        (both, 65_536, "S 57601\n", Err(LogErr::BadLine(131_073))),
+        (
+            both,
+            65_536,
+            "S 1\nI 0 00000000\n",
+            Err(LogErr::BadLine(131_074)),
+        ),
+    ] {
+        let text = repeated(rt.alloc(), piece, times, end)?;
+        let log = read_log(rt.alloc(), text.as_bytes(), 16);
+        if let Ok(h) = &log {
+            assert_eq!(rt; behind_lines(h, text.as_str()), Some(""));
+        }
+        assert_eq!(rt; log.map(|h| h.len()), read);
     }
-    let h = read_log(rt.alloc(), &text, 16).map_err(|_| "refused")?;
-    assert_eq!(rt; h.irqs(), 65_536);
-    text.extend_from_slice(b"S 1\n")?;
-    let h = read_log(rt.alloc(), &text, 16).map_err(|_| "refused")?;
-    assert_eq!(rt; h.len(), 65_537);
-    text.extend_from_slice(b"I 15 0000000f\n")?;
-    let read = read_log(rt.alloc(), &text, 16).map(|h| h.len());
-    assert_eq!(rt; read, Err(LogErr::BadLine(65_538)));
+    Ok(())
+}
+
+#[test]
+fn a_log_of_four_megabytes_ends_in_its_bad_line(rt: HostRuntime) -> Result<(), Fail> {
+    let mut text = repeated(rt.alloc(), "S 1525\nI 15 ffffffff\n", 65_536, "S ")?;
+    text.push_str(repeated(rt.alloc(), "1", 2_818_045, "\n")?.as_str())?;
+    assert_eq!(rt; text.len(), 4_194_304);
+    let read = read_log(rt.alloc(), text.as_bytes(), 16).map(|h| h.len());
+    assert_eq!(rt; read, Err(LogErr::BadLine(131_073)));
+    Ok(())
+}
+
+#[test]
+fn a_history_is_made_again(rt: HostRuntime) -> Result<(), Fail> {
+    for (text, steps, irqs) in [
+        ("", 0, 0),
+        ("S 3\n", 3, 0),
+        ("I 2 00000005\n", 0, 1),
+        ("S 2\nI 1 ffffffff\nI 0 00000007\nS 3\nI 1 00000001\n", 5, 3),
+        ("I 0 00000000\nS 1000000\n", 1_000_000, 1),
+    ] {
+        let h = read_log(rt.alloc(), text.as_bytes(), 3).map_err(|_| "refused")?;
+        let mut plain = PlainReplayer::new(rt.alloc(), 3, 65_536).map_err(|_| "no memory")?;
+        replay(&h, &mut plain);
+        assert_eq!(rt; behind_lines(plain.history(), text), Some(""), "{text:?}");
+        let r = plain.look(rt.alloc()).map_err(|_| "no memory")?;
+        assert_eq!(rt; r.steps, steps, "{text:?}");
+        assert_eq!(rt; r.irqs, irqs, "{text:?}");
+    }
+    Ok(())
+}
+
+#[test]
+fn events_are_made_one_by_one(rt: HostRuntime) -> Result<(), Fail> {
+    let mut plain = PlainReplayer::new(rt.alloc(), 16, 2).map_err(|_| "no memory")?;
+    plain.step();
+    plain.take(DevNo::new(15), 9);
+    plain.step();
+    plain.step();
+    plain.take(DevNo::new(0), 0);
+    let text = "S 1\nI 15 00000009\nS 2\nI 0 00000000\n";
+    assert_eq!(rt; behind_lines(plain.history(), text), Some(""));
     Ok(())
 }

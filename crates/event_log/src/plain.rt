@@ -1,0 +1,112 @@
+//! The plainest replayer: its world is the list of the events that were made on it.
+ghost use Rattle.std.specs.Prelude.{◌≡◌, ◌≤◌, ◌∷◌, ◌++◌, [], List, Ok, IfOk};
+ghost use Rattle.event_log.specs.Events.{Event, events_of};
+ghost use Rattle.event_log.specs.Plain.{counts_of};
+
+use crate::history::History;
+use crate::replayer::Replayer;
+use board_values::{DevNo, Report, Rows, Totals};
+use std::alloc::Global;
+use std::marker::Model;
+use tx_types::NoMemory;
+
+/// A replayer that keeps the events made on it, and has nothing else of a board.
+#[derive(Drop)]
+pub struct PlainReplayer {
+    made: History,
+    devices: u8,
+}
+
+impl Model for PlainReplayer {
+    ghost use Rattle.std.specs.Prelude.{◌-◌};
+    ghost use Rattle.event_log.specs.Log.{step_count, irq_count};
+    ghost use Rattle.event_log.specs.Events.{events_of};
+    ghost use Rattle.event_log.specs.Plain.{Made};
+
+    ghost Value = { Made };
+
+    ghost view = { λ r. record {
+      events = events_of r.made.entries;
+      devices = r.devices;
+      steps_left = 100000000 - step_count r.made.entries;
+      irqs_left = r.made.irqs - irq_count r.made.entries;
+    } };
+}
+
+impl PlainReplayer {
+    /// A replayer with so many devices on which no event was made, with room for 100,000,000 steps and
+    /// so many interrupts.
+    pub fn new(alloc: Global, devices: u8, irqs: u32) -> Result<PlainReplayer, NoMemory>
+        requires { irqs ≤ 65536 }
+        ensures { IfOk result (λ r. r ≡ record {
+          events = [];
+          devices = devices;
+          steps_left = 100000000;
+          irqs_left = irqs;
+        }) }
+    {
+        let made = History::reserve(alloc, irqs)?;
+        Ok(PlainReplayer { made, devices })
+    }
+
+    /// The events that were made, as a history.
+    pub fn history(&self) -> &History
+        ensures { events_of result.now.entries ≡ self.now.events }
+    {
+        &self.made
+    }
+}
+
+impl Replayer for PlainReplayer {
+    ghost World = { List Event };
+
+    ghost world = { λ r. r.events };
+
+    ghost next = { λ events e. events ++ e ∷ [] };
+
+    ghost report = { counts_of };
+
+    ghost devices = { λ r. r.devices };
+
+    ghost steps_left = { λ r. r.steps_left };
+
+    ghost irqs_left = { λ r. r.irqs_left };
+
+    #[tactic(auto, using(crate::proofs::EventLists::one_more))]
+    fn step(&mut self) {
+        self.made.add_step();
+    }
+
+    #[tactic(auto, using(crate::proofs::EventLists::one_more))]
+    fn take(&mut self, d: DevNo, w: u32) {
+        self.made.add_irq(d, w);
+    }
+
+    #[tactic(auto, using(crate::proofs::EventLists::made))]
+    fn look(&self, alloc: Global) -> Result<Report, NoMemory>
+        ensures { result ≡ Ok (counts_of self.now.events) }
+    {
+        Ok(Report {
+            steps: self.made.steps(),
+            irqs: self.made.irqs(),
+            ticks: 0,
+            clock: 0,
+            running: None,
+            held: Rows::new(Vec::new(alloc)),
+            ready: Rows::new(Vec::new(alloc)),
+            totals: Totals {
+                begun: 0,
+                satisfied: 0,
+                timed_out: 0,
+                aborted: 0,
+                deleted: 0,
+                gone: 0,
+            },
+            modules: Rows::new(Vec::new(alloc)),
+            threads: Rows::new(Vec::new(alloc)),
+            objects: Rows::new(Vec::new(alloc)),
+            devices: Rows::new(Vec::new(alloc)),
+            shows: Rows::new(Vec::new(alloc)),
+        })
+    }
+}
