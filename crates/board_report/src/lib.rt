@@ -6,6 +6,7 @@ mod parts;
 mod report;
 mod rows;
 
+pub use parts::{end_line, put_name, put_words};
 pub use report::{lines, report_line};
 
 #[cfg(test)]

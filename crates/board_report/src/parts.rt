@@ -19,7 +19,7 @@ pub(crate) fn put_text(line: &mut Line, text: &str)
 }
 
 /// Ends a line.
-pub(crate) fn end_line(line: &mut Line)
+pub fn end_line(line: &mut Line)
     requires { array_string_len line.old + 1 ≤ 1280 }
     ensures bytes { line.new.bytes ≡ line.old.bytes ++ newline }
     ensures len { array_string_len line.new ≡ array_string_len line.old + 1 }
@@ -40,8 +40,8 @@ fn put_graphic(line: &mut Line, b: u8)
     }
 }
 
-/// Appends a name.
-pub(crate) fn put_name(line: &mut Line, name: &Name)
+/// Appends a name as it prints.
+pub fn put_name(line: &mut Line, name: &Name)
     requires { array_string_len line.old + 31 ≤ 1280 }
     ensures bytes { line.new.bytes ≡ line.old.bytes ++ name_text name.now }
     ensures short { array_string_len line.new ≤ array_string_len line.old + 31 }
@@ -69,7 +69,7 @@ pub(crate) fn put_numbers(line: &mut Line, numbers: &[u16])
 }
 
 /// Appends words, each after a space.
-pub(crate) fn put_words(line: &mut Line, words: &[u32])
+pub fn put_words(line: &mut Line, words: &[u32])
     requires { array_string_len line.old + 9 * length words.now ≤ 1280 }
     ensures bytes { line.new.bytes ≡ line.old.bytes ++ words_text words.now }
     ensures len { array_string_len line.new ≡ array_string_len line.old + 9 * length words.now }

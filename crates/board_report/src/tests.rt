@@ -1,10 +1,11 @@
 //! Whole reports, each line worked by hand.
-ghost use Rattle.std.specs.Prelude.{◌≡◌, ◌≤◌, IfOk, length};
+ghost use Rattle.std.specs.Prelude.{◌≡◌, ◌≤◌, ◌<◌, All, IfOk, length};
 ghost use Rattle.board_report.specs.Printable.{IsNumbers, IsPrintable};
 
 use crate::{lines, report_line};
 use board_values::{
-    DeviceRow, FaultRow, ModuleRow, ObjectRow, Report, Rows, ShowRow, ThreadRow, Totals,
+    DeviceRow, FaultRow, ModuleRow, Nums, ObjectRow, ObjectRows, Report, Rows, ShowRow, ThreadRow,
+    Totals,
 };
 use std::alloc::{AllocError, Global};
 use std::test::Fail;
@@ -46,6 +47,9 @@ show 15 -------- 00000000 --------
 show 1
 end
 ";
+
+/// A name of the most bytes.
+const LONGEST: &[u8; 31] = b"a-name-of-exactly-31-bytes-abcd";
 
 /// A list of these items.
 fn rows<T: Copy>(alloc: Global, items: &[T]) -> Result<Rows<T>, AllocError>
@@ -135,52 +139,52 @@ fn raised_thread(alloc: Global) -> Result<ThreadRow, AllocError>
     })
 }
 
-/// A queue with one waiter.
-fn queue(alloc: Global) -> Result<ObjectRow, AllocError>
-    ensures { IfOk result (λ o. IsNumbers o.waits) }
+/// An object of a module, with three numbers by its kind and the threads that wait for it.
+fn object(at: (u16, u8), kind: u32, name: &[u8], numbers: [u32; 3], waits: Nums) -> ObjectRow
+    requires { length name.now ≤ 31 }
+    ensures { result.waits ≡ waits }
 {
-    Ok(ObjectRow {
-        object: 3,
-        module: 0,
-        kind: 2,
-        name: Name::from_bytes(b"uart"),
-        a: 0,
-        b: 16,
-        c: 1,
-        waits: rows(alloc, &[0])?,
-    })
+    let (object, module) = at;
+    let [a, b, c] = numbers;
+    ObjectRow {
+        object,
+        module,
+        kind,
+        name: Name::from_bytes(name),
+        a,
+        b,
+        c,
+        waits,
+    }
 }
 
-/// A mutex for which nobody waits.
-fn mutex(alloc: Global) -> Result<ObjectRow, AllocError>
-    ensures { IfOk result (λ o. IsNumbers o.waits) }
+/// As many numbers as a list may have, each of the most digits.
+fn full(alloc: Global) -> Result<Nums, AllocError>
+    ensures { IfOk result IsNumbers }
 {
-    Ok(ObjectRow {
-        object: 254,
-        module: 15,
-        kind: 4,
-        name: Name::empty(),
-        a: 2,
-        b: 12,
-        c: 1,
-        waits: rows(alloc, &[])?,
-    })
+    Ok(Rows::new(vec![in alloc; 255u16; 256]?))
 }
 
-/// An object with a longest name and three waiters.
-fn pool(alloc: Global) -> Result<ObjectRow, AllocError>
-    ensures { IfOk result (λ o. IsNumbers o.waits) }
+/// One object of each kind.
+fn objects(alloc: Global) -> Result<ObjectRows, AllocError>
+    ensures few { IfOk result (λ r. length r ≤ 256) }
+    ensures waits { IfOk result (All (λ o. IsNumbers o.waits)) }
 {
-    Ok(ObjectRow {
-        object: 255,
-        module: 0,
-        kind: 7,
-        name: Name::from_bytes(b"a-name-of-exactly-31-bytes-abcd"),
-        a: 1,
-        b: 2,
-        c: 0xFFFF_FFFF,
-        waits: rows(alloc, &[0, 10, 255])?,
-    })
+    Ok(Rows::new(vec![in alloc;
+        object((1, 0), 2, b"mail", [2, 14, 4], rows(alloc, &[])?),
+        object((2, 0), 3, b"free", [0, 0, 0], rows(alloc, &[7, 8])?),
+        object((3, 1), 4, b"", [3, 12, 1], rows(alloc, &[9])?),
+        object((4, 1), 5, b"alarm", [0x8000_0001, 0, 0], rows(alloc, &[])?),
+        object((10, 2), 6, b"heap", [48, 2, 0], rows(alloc, &[0, 10, 255])?),
+        object((11, 2), 7, b"blocks", [5, 6, 0], rows(alloc, &[])?),
+        object(
+            (255, 15),
+            8,
+            LONGEST,
+            [1, 0, 0xFFFF_FFFF],
+            rows(alloc, &[])?
+        ),
+    ]?))
 }
 
 fn show(alloc: Global, show: u8, cells: &[Option<u32>]) -> Result<ShowRow, AllocError>
@@ -213,7 +217,9 @@ fn idle(alloc: Global) -> Result<Report, AllocError>
         },
         modules: Rows::new(vec![in alloc; module(0, b"sensor", [1, 0, 0], None)]?),
         threads: Rows::new(vec![in alloc; waiting_thread(alloc)?]?),
-        objects: Rows::new(vec![in alloc; queue(alloc)?]?),
+        objects: Rows::new(vec![in alloc;
+            object((3, 0), 2, b"uart", [0, 16, 1], rows(alloc, &[0])?),
+        ]?),
         devices: Rows::new(vec![in alloc; device(1, b"uart", 3, 0)]?),
         shows: Rows::new(vec![in alloc; show(alloc, 0, &[Some(0x1C)])?]?),
     })
@@ -249,7 +255,16 @@ fn busy(alloc: Global) -> Result<Report, AllocError>
         },
         modules: Rows::new(vec![in alloc; faulted, loaded]?),
         threads: Rows::new(vec![in alloc; raised_thread(alloc)?]?),
-        objects: Rows::new(vec![in alloc; mutex(alloc)?, pool(alloc)?]?),
+        objects: Rows::new(vec![in alloc;
+            object((254, 15), 4, b"", [2, 12, 1], rows(alloc, &[])?),
+            object(
+                (255, 0),
+                7,
+                LONGEST,
+                [1, 2, 0xFFFF_FFFF],
+                rows(alloc, &[0, 10, 255])?
+            ),
+        ]?),
         devices: Rows::new(vec![in alloc;
             device(0, b"", 0xFFFF_FFFF, 0x1A),
             device(15, b"d", 0, 0xFF),
@@ -271,5 +286,70 @@ fn a_report_with_a_fault_and_dots_and_dashes(rt: HostRuntime) -> Result<(), Fail
     let r = busy(rt.alloc())?;
     assert_eq!(rt; lines(&r), 18);
     assert_eq!(rt; text_of(rt.alloc(), &r)?.as_str(), BUSY);
+    Ok(())
+}
+
+#[test]
+fn a_line_for_each_kind_of_object(rt: HostRuntime) -> Result<(), Fail> {
+    let mut r = idle(rt.alloc())?;
+    r.objects = objects(rt.alloc())?;
+    for (i, text) in [
+        (9, "object 1 module 0 kind 2 mail 2 14 4 waits\n"),
+        (10, "object 2 module 0 kind 3 free 0 0 0 waits 7 8\n"),
+        (11, "object 3 module 1 kind 4 - 3 12 1 waits 9\n"),
+        (12, "object 4 module 1 kind 5 alarm 2147483649 0 0 waits\n"),
+        (13, "object 10 module 2 kind 6 heap 48 2 0 waits 0 10 255\n"),
+        (14, "object 11 module 2 kind 7 blocks 5 6 0 waits\n"),
+        (
+            15,
+            "object 255 module 15 kind 8 a-name-of-exactly-31-bytes-abcd 1 0 4294967295 waits\n",
+        ),
+        (16, "device 1 uart taken 3 last 00\n"),
+    ] {
+        let mut line = Line::new();
+        if i < lines(&r) {
+            report_line(&r, i, &mut line);
+        }
+        assert_eq!(rt; line.as_str(), text);
+    }
+    Ok(())
+}
+
+/// A front, a piece so many times, and a newline.
+fn repeated(alloc: Global, front: &str, piece: &str, times: u32) -> Result<String, AllocError> {
+    let mut text = String::from_str(alloc, front)?;
+    for _ in 0..times {
+        text.push_str(piece)?;
+    }
+    text.push_str("\n")?;
+    Ok(text)
+}
+
+#[test]
+fn the_longest_lines(rt: HostRuntime) -> Result<(), Fail> {
+    let alloc = rt.alloc();
+    let mut r = idle(alloc)?;
+    r.held = full(alloc)?;
+    r.ready = full(alloc)?;
+    let most = object((255, 15), 8, LONGEST, [0xFFFF_FFFF; 3], full(alloc)?);
+    r.objects = Rows::new(vec![in alloc; most]?);
+    r.shows = Rows::new(vec![in alloc; show(alloc, 15, &[Some(0x89AB_CDEF); 64])?]?);
+    let front =
+        "object 255 module 15 kind 8 a-name-of-exactly-31-bytes-abcd 4294967295 4294967295 4294967295 waits";
+    for (i, front, piece, times) in [
+        (3, "held", " 255", 256),
+        (4, "ready", " 255", 256),
+        (9, front, " 255", 256),
+        (11, "show 15", " 89abcdef", 64),
+    ] {
+        let mut line = Line::new();
+        if i < lines(&r) {
+            report_line(&r, i, &mut line);
+        }
+        assert_eq!(rt;
+            line.as_str(),
+            repeated(alloc, front, piece, times)?.as_str()
+        );
+    }
     Ok(())
 }
