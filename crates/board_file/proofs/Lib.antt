@@ -1,4 +1,6 @@
 pub mod Items
 pub mod Keys
+pub mod Meaning
+pub mod Rules
 pub mod Steps
 pub mod Words

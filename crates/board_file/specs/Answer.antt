@@ -1,5 +1,6 @@
 -- What reading answers, by what it should: want of memory is free.
-use Rattle.std.specs.Prelude.{◌≡◌, ℕ, List, Some, Result, Ok, Err, IsUtf8}
+use Rattle.std.specs.Prelude.{◌≡◌, ℕ, if◌then◌else◌, List, Option, Some, None, Result, Ok, Err}
+use Rattle.std.specs.Str.{is_utf8}
 use Rattle.toml.specs.Data.{Members}
 use Rattle.toml.specs.Parse.{parse_document}
 use Rattle.board_file.specs.Board.{board_of}
@@ -23,13 +24,26 @@ ReadsAs seen due (Err (Field path)) = due ≡ Err path
 abbrev pub Reads : {A : Type 0} → Result A (List ℕ) → Result A BoardErr → Type 0
 Reads due r = ReadsAs (λ x. x) due r
 
--- the bytes are the TOML text of a table
-abbrev pub Means : List ℕ → Members → Type 0
-Means bytes file = IsUtf8 bytes × (parse_document bytes ≡ Some file)
+-- the table that the bytes are the TOML text of, if they are
+abbrev pub file_in : List ℕ → Option Members
+file_in bytes = if is_utf8 bytes then parse_document bytes else None
 
--- the board that the bytes mean, the first wrong field, or no table at all
-abbrev pub AnswersBoard : List ℕ → Result Board BoardErr → Type 0
-AnswersBoard bytes (Ok board) = (file : Members) × Means bytes file × (board_of file ≡ Ok board)
-AnswersBoard bytes (Err (Field path)) = (file : Members) × Means bytes file × (board_of file ≡ Err path)
-AnswersBoard bytes (Err NotToml) = (file : Members) → Means bytes file → ⊥
-AnswersBoard bytes (Err NoMemory) = Unit {0}
+-- a board, or the path of a wrong field
+abbrev pub or_field : Result Board (List ℕ) → Result Board BoardErr
+or_field (Ok board) = Ok board
+or_field (Err path) = Err (Field path)
+
+abbrev pub or_not_toml : Option Members → Result Board BoardErr
+or_not_toml None = Err NotToml
+or_not_toml (Some file) = or_field (board_of file)
+
+-- what bytes mean: a board, the first wrong field of a table, or no table at all
+unfoldable pub board_in : List ℕ → Result Board BoardErr
+board_in bytes = or_not_toml (file_in bytes)
+
+-- what was due is answered; that memory ran out may come at any time
+abbrev pub Answers : Result Board BoardErr → Result Board BoardErr → Type 0
+Answers due (Ok board) = due ≡ Ok board
+Answers due (Err NoMemory) = Unit {0}
+Answers due (Err NotToml) = due ≡ Err NotToml
+Answers due (Err (Field path)) = due ≡ Err (Field path)

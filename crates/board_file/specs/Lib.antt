@@ -3,3 +3,4 @@ pub mod Field
 pub mod Board
 pub mod Answer
 pub mod Part
+pub mod Rules

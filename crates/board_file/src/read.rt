@@ -1,9 +1,10 @@
 //! Reading a board file whole.
-ghost use Rattle.std.specs.Prelude.{◌≡◌, ◌↔◌, IsTrue};
+ghost use Rattle.std.specs.Prelude.{◌≡◌, ◌↔◌, IfOk, IsTrue};
 ghost use Rattle.toml.specs.Errors.{IsMemory};
 ghost use Rattle.toml.specs.View.{table_view};
-ghost use Rattle.board_file.specs.Answer.{AnswersBoard, Reads};
+ghost use Rattle.board_file.specs.Answer.{Answers, Reads, board_in};
 ghost use Rattle.board_file.specs.Board.{board_of};
+ghost use Rattle.board_file.specs.Rules.{IsBoard};
 
 use crate::board::Board;
 use crate::devices::devices;
@@ -49,8 +50,10 @@ fn board(alloc: Global, file: &Table) -> Result<Board, BoardErr>
 
 /// The board that a TOML text says. `NotToml` comes where the bytes are the text of no table, and
 /// `Field` with the path of the first wrong field, in the order of the format.
+#[tactic(auto, using(crate::proofs::Meaning::meaning))]
 pub fn read_board(alloc: Global, bytes: &[u8]) -> Result<Board, BoardErr>
-    ensures { AnswersBoard bytes.now result }
+    ensures board { Answers (board_in bytes.now) result }
+    ensures rules { IfOk result IsBoard }
 {
     match toml::table_from_slice(alloc, bytes) {
         Ok(file) => board(alloc, &file),

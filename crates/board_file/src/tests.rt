@@ -1,6 +1,6 @@
 //! Boards and the first wrong field of each, by hand from the description of the format.
 
-use crate::{Action, Board, BoardDevice, BoardErr, BoardModule, read_board};
+use crate::{Action, Board, BoardDevice, BoardErr, BoardModule, Path, PathText, read_board};
 use std::alloc::{AllocError, Global};
 use std::process::Abort;
 use std::test::Fail;
@@ -358,6 +358,15 @@ fn fields_of_a_show(rt: HostRuntime) -> Result<(), Fail> {
 fn bytes_that_are_no_text(rt: HostRuntime) -> Result<(), Fail> {
     let read = read_board(rt.alloc(), &[0x61, 0xFF]);
     assert_eq!(rt; answer(&read), "not toml");
+    Ok(())
+}
+
+#[test]
+fn paths_give_their_text_back(rt: HostRuntime) -> Result<(), Fail> {
+    let image = PathText::new(String::from_str(rt.alloc(), "a b.img")?).into_string();
+    assert_eq!(rt; image.as_str(), "a b.img");
+    let field = Path::new(String::from_str(rt.alloc(), "module[0].é")?).into_string();
+    assert_eq!(rt; field.as_str(), "module[0].é");
     Ok(())
 }
 

@@ -2,7 +2,7 @@
 use std::marker::Model;
 
 /// The path of an image file, as the board file gives it.
-#[derive(Debug, Drop)]
+#[derive(Clone, Debug, Drop)]
 pub struct PathText {
     text: String,
 }
@@ -30,6 +30,13 @@ impl PathText {
         ensures { result.now ≡ self.now }
     {
         self.text.as_str()
+    }
+
+    /// The `String` of its text.
+    pub fn into_string(self) -> String
+        ensures { string_bytes result ≡ self }
+    {
+        self.text
     }
 }
 
@@ -62,5 +69,12 @@ impl Path {
         ensures { result.now ≡ self.now }
     {
         self.text.as_str()
+    }
+
+    /// The `String` of its text.
+    pub fn into_string(self) -> String
+        ensures { string_bytes result ≡ self }
+    {
+        self.text
     }
 }
