@@ -1,1 +1,12 @@
+pub mod Action
+pub mod Boot
 pub mod Bus
+pub mod Frame
+pub mod Laid
+pub mod Laws
+pub mod Machine
+pub mod Next
+pub mod Report
+pub mod Run
+pub mod Step
+pub mod World

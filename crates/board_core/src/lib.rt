@@ -1,9 +1,24 @@
-//! The board's processor: a hart over guarded memory.
+//! The machine: a board on which events are made, one after another.
 #![tactic(auto)]
 
+mod action;
+mod boot;
 mod bus;
+mod device;
+pub mod laws;
+mod loading;
+mod look;
+mod machine;
+mod placing;
+mod replay;
+mod rows;
+mod shows;
+mod step;
 
+pub use boot::BootErr;
 pub use bus::GuardBus;
+pub use device::Device;
+pub use machine::Machine;
 
 #[cfg(test)]
 mod tests;

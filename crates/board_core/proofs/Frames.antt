@@ -1,0 +1,135 @@
+-- What an event changes in memory lies in its frame.
+use Rattle.std.proofs.Common.{◌≡◌, ℕ, ◌-◌, ◌<◌, true, List, [], ◌∷◌, length, Option, None, Some, position, refl, sym, ap, subst}
+use Rattle.std.proofs.lemmas.Bool.{cond_both}
+use Rattle.std.proofs.lemmas.List.Elements.{All-head}
+use Rattle.machine_words.specs.Number.{low_bytes}
+use Rattle.tx_types.specs.Code.{thread_error}
+use Rattle.tx_types.specs.declared.kind.Kind.TheVariants.{Thread as ThreadKind}
+use Rattle.flat_ram.specs.Laws.{IsOutside, LengthStays, WidthIsLength}
+use Rattle.object_grants.specs.Slot.{has_name}
+use Rattle.region_guard.specs.Laws.{BytesOutsideStay, UsedIsInRam}
+use Rattle.region_guard.specs.Memory.{Memory, IsSound as IsSoundMemory, may, byte, with_number, ram_base}
+use Rattle.region_guard.specs.declared.region.Access.TheVariants.{Store}
+use Rattle.rv_core.specs.Execute.{Effect, Completes, Stores, Calls, Faults}
+use Rattle.rv_core.specs.Hart.{HartState}
+use Rattle.board_file.specs.declared.board.Action.{Action}
+use Rattle.board_file.specs.declared.board.Action.TheVariants.{Resume}
+use Rattle.event_log.specs.Events.{Event, Step, Irq}
+use Rattle.kernel_state.specs.Kernel.{thread, module_of}
+use Rattle.kernel_state.specs.Laws.{RunningIsReady, ReadyIsThread}
+use Rattle.kernel_state.specs.Outcome.{Outcome, found, unless}
+use Rattle.kernel_state.specs.declared.kernel.Kernel.{Kernel}
+use Rattle.kernel_state.specs.declared.thread.Thread.{Thread}
+use Rattle.thread_calls.specs.ThreadRows.{resumption}
+use Rattle.call_dispatch.specs.Ecall.{arguments, dispatched, number_asked}
+use Rattle.call_dispatch.specs.Laws.{CallWritesItsResultAlone}
+use Rattle.call_dispatch.specs.Results.{Range, IsOutsideOf, call_result}
+use Rattle.call_dispatch.specs.Rows.{call_row}
+use Rattle.board_core.specs.Action.{acted, device_of, resumed_by_name}
+use Rattle.board_core.specs.Bus.{seen}
+use Rattle.board_core.specs.Frame.{IsOutsideAll, effect_frame, frame, if_any, step_frame}
+use Rattle.board_core.specs.Laws.{FrameLaw, IsWorld}
+use Rattle.board_core.specs.Next.{next}
+use Rattle.board_core.specs.Step.{after_effect, after_fault, next_effect, stepped, stepped_by, with_hart}
+use Rattle.board_core.specs.World.{World}
+use Rattle.board_core.proofs.Effects.{IsAllowed, executed_allowed}
+use Rattle.board_core.proofs.Running.{running_below, thread-with_hart}
+
+-- the laws of the layers below
+pub record Lower : Type 0 where
+  pub is_ready : RunningIsReady
+  pub is_thread : ReadyIsThread
+  pub length_stays : LengthStays
+  pub width : WidthIsLength
+  pub outside_stays : BytesOutsideStay
+  pub in_ram : UsedIsInRam
+  pub call : CallWritesItsResultAlone
+
+-- the regions and the size of RAM stay, and so does each byte outside of ranges
+pub record ChangesWithin (ranges : List Range) (g now : Memory) : Type 0 where
+  pub regions : now.regions ≡ g.regions
+  pub size : length now.bytes ≡ length g.bytes
+  pub bytes : (x : ℕ) → IsOutsideAll ranges x → byte now x ≡ byte g x
+
+nothing_changes : (g : Memory) → ChangesWithin [] g g
+nothing_changes g = record { regions = refl; size = refl; bytes = λ x outside. refl }
+
+-- a store that is allowed
+stored_within : Lower → (g : Memory) (m a n value : ℕ) → IsSoundMemory g → 0 < n → may g m Store a n ≡ true
+    → ChangesWithin (record { base = a; size = n } ∷ []) g (with_number g a n value)
+stored_within lower g m a n value sound some allowed =
+    let stored = low_bytes n value in
+    let here : Range = record { base = a; size = n } in
+    let from = (lower.in_ram g m Store a n sound some allowed).from_base in
+    record {
+      regions = refl;
+      size = lower.length_stays g.bytes stored (a - ram_base);
+      bytes = λ x outside.
+          lower.outside_stays g stored a x from
+          (subst (λ i. IsOutside a i x) (sym (lower.width n value)) (All-head (λ (r : Range). IsOutside r.base r.size x) here [] outside));
+    }
+
+-- a call
+outside_of : (r : Option Range) (x : ℕ) → IsOutsideAll (if_any r) x → IsOutsideOf r x
+outside_of None x outside = tt
+outside_of (Some r) x outside = All-head (λ (s : Range). IsOutside s.base s.size x) r [] outside
+
+called_within : Lower → (k : Kernel) (g : Memory) (t n : ℕ) (a : List ℕ) → IsSoundMemory g
+    → ChangesWithin (if_any (call_result n k g t a)) g (call_row n k g t a).memory
+called_within lower k g t n a sound =
+    let alone = lower.call k g t n a sound in
+    record { regions = alone.regions; size = alone.size; bytes = λ x outside. alone.bytes x (outside_of (call_result n k g t a) x outside) }
+
+dispatched_within : Lower → (w : World) (t : ℕ) (h : HartState) → IsWorld w → t < 256
+    → ChangesWithin (effect_frame w t (Calls h)) w.memory (dispatched (with_hart w.kernel t h) w.memory t).memory
+unfolding dispatched
+dispatched_within lower w t h world below =
+    let k = with_hart w.kernel t h in
+    let same : (thread k t).hart ≡ h = ap (λ (u : Thread). u.hart) (thread-with_hart w.kernel t h world.kernel below) in
+    subst (λ (f : HartState). ChangesWithin (effect_frame w t (Calls h)) w.memory (call_row (number_asked f) k w.memory t (arguments f)).memory)
+    (sym same) (called_within lower k w.memory t (number_asked h) (arguments h) world.memory)
+
+-- a step
+effect_within : Lower → (w : World) (t : ℕ) (e : Effect) → IsWorld w → t < 256 → IsAllowed (seen (module_of w.kernel t) w.memory) e
+    → ChangesWithin (effect_frame w t e) w.memory (after_effect w.kernel w.memory w.modules t e).memory
+unfolding after_fault
+effect_within lower w t (Completes h) world below allowed = nothing_changes w.memory
+effect_within lower w t (Stores a n value h) world below allowed = stored_within lower w.memory (module_of w.kernel t) a n value world.memory allowed.0 allowed.1
+effect_within lower w t (Calls h) world below allowed = dispatched_within lower w t h world below
+effect_within lower w t (Faults cause) world below allowed = nothing_changes w.memory
+
+step_within : Lower → (w : World) (run : Option ℕ) → IsWorld w → w.kernel.ready.run ≡ run
+    → ChangesWithin (step_frame w run) w.memory (stepped_by w.kernel w.memory w.modules run).memory
+step_within lower w None world runs = nothing_changes w.memory
+step_within lower w (Some t) world runs =
+    effect_within lower w t (next_effect w.kernel w.memory t) world (running_below lower.is_ready lower.is_thread w.kernel t world.kernel runs)
+    (executed_allowed (seen (module_of w.kernel t) w.memory) (thread w.kernel t).hart)
+
+-- an interrupt
+unless-memory : (k : Kernel) (g : Memory) (refusal : Option ℕ) (change : Outcome) → change.memory ≡ g → (unless k g refusal change).memory ≡ g
+unless-memory k g None change same = same
+unless-memory k g (Some c) change same = refl
+
+resumption-memory : (k : Kernel) (g : Memory) (t : ℕ) → (resumption k g t).memory ≡ g
+unfolding resumption
+resumption-memory k g t =
+    cond_both (thread k t).held _ _ (λ (o : Outcome). o.memory ≡ g) (λ held. refl) (λ free. unless-memory k g _ _ refl)
+
+found-memory : (k : Kernel) (g : Memory) (o : Option ℕ) → (found k g thread_error o (resumption k g)).memory ≡ g
+found-memory k g None = refl
+found-memory k g (Some t) = resumption-memory k g t
+
+acted-memory : (k : Kernel) (g : Memory) (action : Action) (target : List ℕ) (word : ℕ) → (acted k g action target word).memory ≡ g
+unfolding resumed_by_name
+acted-memory k g Resume target word = found-memory k g (position (has_name ThreadKind target) k.objects)
+acted-memory k g _ target word = refl
+
+-- every event
+pub event_within : Lower → (w : World) (e : Event) → IsWorld w → ChangesWithin (frame w e) w.memory (next w e).memory
+unfolding stepped
+event_within lower w Step world = step_within lower w w.kernel.ready.run world refl
+event_within lower w (Irq d word) world =
+    subst (ChangesWithin [] w.memory) (sym (acted-memory w.kernel w.memory (device_of w.board d).action (device_of w.board d).target word)) (nothing_changes w.memory)
+
+pub frame_law : Lower → FrameLaw
+frame_law lower w e x world outside = (event_within lower w e world).bytes x outside

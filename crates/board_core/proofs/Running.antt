@@ -1,0 +1,36 @@
+-- The thread that runs, and its step.
+use Rattle.std.proofs.Common.{◌≡◌, ℕ, ◌<◌, ◌≤◌, true, Some, sym, ap, ◌∙◌, ⊎_elim, arith}
+use Rattle.std.proofs.lemmas.Bool.{cases_lt, false≢true}
+use Rattle.std.proofs.lemmas.List.{get_or-set_same, get_or_past}
+use Rattle.object_grants.specs.Slot.{free_slot}
+use Rattle.rv_core.specs.Execute.{Effect}
+use Rattle.rv_core.specs.Hart.{HartState}
+use Rattle.kernel_state.specs.Kernel.{thread, has_thread, is_thread}
+use Rattle.kernel_state.specs.Laws.{RunningIsReady, ReadyIsThread}
+use Rattle.kernel_state.specs.Sound.{IsSound}
+use Rattle.kernel_state.specs.Thread.{blank_thread}
+use Rattle.kernel_state.specs.declared.kernel.Kernel.{Kernel}
+use Rattle.board_core.specs.Step.{after_effect, next_effect, stepped, stepped_by, with_hart}
+use Rattle.board_core.specs.World.{World}
+
+-- a thread has a number below 256
+thread_below : (k : Kernel) (t : ℕ) → IsSound k → is_thread k t ≡ true → t < 256
+thread_below k t sound is =
+    ⊎_elim (λ below. below)
+    (λ (past : 256 ≤ t).
+    let none = get_or_past k.objects t (free_slot 0) (omega (arith, sound.slots)) in
+    absurd (false≢true (sym (ap has_thread none) ∙ is)))
+    (cases_lt t 256)
+
+pub running_below : RunningIsReady → ReadyIsThread → (k : Kernel) (t : ℕ) → IsSound k → k.ready.run ≡ Some t → t < 256
+running_below is_ready is_thread k t sound runs = thread_below k t sound (is_thread k t sound (is_ready k t sound runs))
+
+-- the thread whose registers are set
+pub thread-with_hart : (k : Kernel) (t : ℕ) (h : HartState) → IsSound k → t < 256 → thread (with_hart k t h) t ≡ record (thread k t) { hart = h }
+thread-with_hart k t h sound below = get_or-set_same k.threads t (record (thread k t) { hart = h }) blank_thread (omega (arith, sound.threads))
+
+-- the step of a thread that runs, by its effect
+pub stepped_is : (w : World) (t : ℕ) (e : Effect) → w.kernel.ready.run ≡ Some t → next_effect w.kernel w.memory t ≡ e
+    → stepped w.kernel w.memory w.modules ≡ after_effect w.kernel w.memory w.modules t e
+unfolding stepped
+stepped_is w t e runs is = ap (stepped_by w.kernel w.memory w.modules) runs ∙ ap (after_effect w.kernel w.memory w.modules t) is

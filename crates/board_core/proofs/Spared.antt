@@ -1,0 +1,167 @@
+-- What no event writes: code, the data of a module whose thread doesn't run, and by a fault nothing.
+use Rattle.std.proofs.Common.{◌≡◌, ◌≢◌, ◌⊎◌, ℕ, ◌+◌, ◌<◌, ◌≤◌, ◌==◌, ◌&&◌, Bool, true, false, nat_le, nat_lt, List, [], ◌∷◌, length, Option, None, Some, All, refl, sym, ap, ◌∙◌, subst, ⊎_elim, inl, inr, get_or, option_and_then, arith}
+use Rattle.std.proofs.lemmas.Bool.{and_cases, and_from, and_parts, cases_lt, cases_order, cond_both, eqb-true, false≢true, leb-true, ltb-false, or_cases}
+use Rattle.std.proofs.lemmas.List.{get_or_default}
+use Rattle.std.proofs.lemmas.List.Elements.{All-cons, All-nil}
+use Rattle.std.proofs.lemmas.List.Folds.{Any-from_list_any}
+use Rattle.std.proofs.lemmas.Nat.Bits.{bit_at-pow_other}
+use Rattle.std.specs.List.{Contains, list_any}
+use Rattle.flat_ram.specs.Laws.{IsOutside}
+use Rattle.region_guard.specs.Memory.{Memory, IsSound as IsSoundMemory, may}
+use Rattle.region_guard.specs.Region.{covers, gives, is_for, lets, meets}
+use Rattle.region_guard.specs.declared.region.Access.TheVariants.{Store}
+use Rattle.region_guard.specs.declared.region.Region.{Region}
+use Rattle.rv_core.specs.Execute.{Effect, Completes, Stores, Calls, Faults}
+use Rattle.rv_core.specs.Hart.{HartState}
+use Rattle.event_log.specs.Events.{Event, Step, Irq}
+use Rattle.kernel_state.specs.Kernel.{thread, is_thread, module_of}
+use Rattle.kernel_state.specs.Laws.{RunningIsReady, ReadyIsThread}
+use Rattle.kernel_state.specs.declared.thread.Thread.{Thread}
+use Rattle.call_dispatch.specs.Ecall.{arguments, number_asked}
+use Rattle.call_dispatch.specs.Results.{Range, if_allowed, result_range}
+use Rattle.call_dispatch.specs.Service.{service_of}
+use Rattle.module_manager.specs.Laws.{HaltSparesThreads}
+use Rattle.module_manager.specs.Modules.{module_at}
+use Rattle.board_core.specs.Boot.{code_region, data_region}
+use Rattle.board_core.specs.Bus.{seen}
+use Rattle.board_core.specs.Frame.{IsOutsideAll, effect_frame, frame, if_any, step_frame}
+use Rattle.board_core.specs.Laws.{CodeIsInNoFrame, FaultKeepsBytes, FaultSparesOthers, IsWorld, OthersDataIsInNoFrame}
+use Rattle.board_core.specs.Step.{Parts, after_fault, next_effect, with_hart}
+use Rattle.board_core.specs.World.{World}
+use Rattle.board_core.proofs.Effects.{IsAllowed, executed_allowed}
+use Rattle.board_core.proofs.Regions.{module_stands}
+use Rattle.board_core.proofs.Running.{running_below, stepped_is, thread-with_hart}
+
+-- one region ends before the other begins
+abbrev AreApart : Region → Region → Type 0
+AreApart r s = (r.base + r.size ≤ s.base) ⊎ (s.base + s.size ≤ r.base)
+
+apart_from_meets : (r s : Region) → meets r s ≡ false → AreApart r s
+apart_from_meets r s unmet =
+    ⊎_elim (λ above. inr (ltb-false r.base (s.base + s.size) above)) (λ below. inl (ltb-false s.base (r.base + r.size) below))
+    (and_cases (nat_lt r.base (s.base + s.size)) (nat_lt s.base (r.base + r.size)) unmet)
+
+-- two regions of a sound memory are one, or apart
+one_or_apart : (g : Memory) (r s : Region) → IsSoundMemory g → Contains g.regions r → Contains g.regions s → (r ≡ s) ⊎ AreApart r s
+one_or_apart g r s sound in_r in_s =
+    let i = in_r.0 in
+    let j = in_s.0 in
+    let at_s : get_or g.regions j r ≡ s = get_or_default g.regions j r s in_s.1 ∙ in_s.2 in
+    ⊎_elim
+    (λ (same : i ≡ j). inl (sym in_r.2 ∙ ap (λ n. get_or g.regions n r) same ∙ at_s))
+    (λ order. inr (⊎_elim
+    (λ (before : i < j).
+    let unmet = subst (λ q. meets q r ≡ false) at_s (subst (λ q. meets (get_or g.regions j r) q ≡ false) in_r.2 (sound.apart i j r before in_s.1)) in
+    ⊎_elim (λ s_first. inr s_first) (λ r_first. inl r_first) (apart_from_meets s r unmet))
+    (λ (behind : j < i).
+    apart_from_meets r s (subst (λ q. meets r q ≡ false) at_s (subst (λ q. meets q (get_or g.regions j r) ≡ false) in_r.2 (sound.apart j i r behind in_r.1))))
+    order))
+    (cases_order i j)
+
+outside_of_covered : (r s : Region) (a n x : ℕ) → covers s a n ≡ true → r.base ≤ x → x < r.base + r.size → AreApart r s → IsOutside a n x
+outside_of_covered r s a n x covered from to apart =
+    let ends = and_parts (nat_le s.base a) (nat_le (a + n) (s.base + s.size)) covered in
+    let low = leb-true s.base a ends.0 in
+    let high = leb-true (a + n) (s.base + s.size) ends.1 in
+    ⊎_elim (λ r_first. inl (omega arith)) (λ s_first. inr (omega arith)) apart
+
+-- whether a region lets a module store
+abbrev lets_store : ℕ → Region → Bool
+lets_store m r = gives r.rights Store && is_for m r
+
+-- an address of a region is in no range that may be stored by a module to which the region gives no store
+region_is_outside : (g : Memory) (m a n x : ℕ) (r : Region) → IsSoundMemory g → may g m Store a n ≡ true
+    → Contains g.regions r → lets_store m r ≡ false → r.base ≤ x → x < r.base + r.size → IsOutside a n x
+region_is_outside g m a n x r sound allowed stands no_store from to =
+    ⊎_elim
+    (λ empty. let none = eqb-true n 0 empty in ⊎_elim (λ before. inl before) (λ behind. inr (omega arith)) (cases_lt x a))
+    (λ reached.
+    let found = Any-from_list_any (lets m Store a n) g.regions reached in
+    let s = found.1 in
+    let by_module = and_parts (covers s a n && gives s.rights Store) (is_for m s) found.4 in
+    let by_rights = and_parts (covers s a n) (gives s.rights Store) by_module.0 in
+    ⊎_elim
+    (λ (same : r ≡ s).
+    let store = and_from (gives s.rights Store) (is_for m s) by_rights.1 by_module.1 in
+    absurd (false≢true (sym no_store ∙ subst (λ q. lets_store m q ≡ true) (sym same) store)))
+    (λ apart. outside_of_covered r s a n x by_rights.0 from to apart)
+    (one_or_apart g r s sound stands (found.0, found.2, found.3)))
+    (or_cases (n == 0) (list_any (lets m Store a n) g.regions) allowed)
+
+-- the frame of a step may be stored by the module of the thread that runs
+abbrev MayStore : Memory → ℕ → List Range → Type 0
+MayStore g m ranges = All (λ r. may g m Store r.base r.size ≡ true) ranges
+
+none_stored : (g : Memory) (m : ℕ) → MayStore g m []
+none_stored g m = All-nil (λ (r : Range). may g m Store r.base r.size ≡ true)
+
+one_stored : (g : Memory) (m : ℕ) (r : Range) → may g m Store r.base r.size ≡ true → MayStore g m (r ∷ [])
+one_stored g m r allowed = All-cons (λ (s : Range). may g m Store s.base s.size ≡ true) r [] allowed (none_stored g m)
+
+result_stored : (g : Memory) (m : ℕ) (r : Option Range) → MayStore g m (if_any (if_allowed g m r))
+result_stored g m None = none_stored g m
+result_stored g m (Some r) =
+    cond_both (may g m Store r.base r.size) (Some r) None (λ (o : Option Range). MayStore g m (if_any o)) (λ yes. one_stored g m r yes) (λ no. none_stored g m)
+
+call_stored : (w : World) (t : ℕ) (h : HartState) → IsWorld w → t < 256 → MayStore w.memory (module_of w.kernel t) (effect_frame w t (Calls h))
+call_stored w t h world below =
+    let k = with_hart w.kernel t h in
+    let same : module_of k t ≡ module_of w.kernel t = ap (λ (u : Thread). u.module) (thread-with_hart w.kernel t h world.kernel below) in
+    subst (λ m. MayStore w.memory m (effect_frame w t (Calls h))) same
+    (result_stored w.memory (module_of k t) (option_and_then (λ s. result_range s (arguments h)) (service_of (number_asked h))))
+
+effect_stored : (w : World) (t : ℕ) (e : Effect) → IsWorld w → t < 256 → IsAllowed (seen (module_of w.kernel t) w.memory) e
+    → MayStore w.memory (module_of w.kernel t) (effect_frame w t e)
+effect_stored w t (Completes h) world below allowed = none_stored w.memory (module_of w.kernel t)
+effect_stored w t (Stores a n value h) world below allowed = one_stored w.memory (module_of w.kernel t) (record { base = a; size = n }) allowed.1
+effect_stored w t (Calls h) world below allowed = call_stored w t h world below
+effect_stored w t (Faults cause) world below allowed = none_stored w.memory (module_of w.kernel t)
+
+-- an address of a region that gives the running thread's module no store is in no frame
+step_spares : RunningIsReady → ReadyIsThread → (w : World) (run : Option ℕ) (r : Region) (x : ℕ) → IsWorld w → w.kernel.ready.run ≡ run
+    → Contains w.memory.regions r → ((t : ℕ) → run ≡ Some t → lets_store (module_of w.kernel t) r ≡ false)
+    → r.base ≤ x → x < r.base + r.size → IsOutsideAll (step_frame w run) x
+step_spares is_ready is_thread w None r x world runs stands no_store from to = All-nil (λ (s : Range). IsOutside s.base s.size x)
+step_spares is_ready is_thread w (Some t) r x world runs stands no_store from to =
+    let m = module_of w.kernel t in
+    let below = running_below is_ready is_thread w.kernel t world.kernel runs in
+    let stored = effect_stored w t (next_effect w.kernel w.memory t) world below (executed_allowed (seen m w.memory) (thread w.kernel t).hart) in
+    λ k d within. region_is_outside w.memory m _ _ x r world.memory (stored k d within) stands (no_store t refl) from to
+
+event_spares : RunningIsReady → ReadyIsThread → (w : World) (e : Event) (r : Region) (x : ℕ) → IsWorld w
+    → Contains w.memory.regions r → ((t : ℕ) → w.kernel.ready.run ≡ Some t → lets_store (module_of w.kernel t) r ≡ false)
+    → r.base ≤ x → x < r.base + r.size → IsOutsideAll (frame w e) x
+event_spares is_ready is_thread w Step r x world stands no_store from to = step_spares is_ready is_thread w w.kernel.ready.run r x world refl stands no_store from to
+event_spares is_ready is_thread w (Irq d word) r x world stands no_store from to = All-nil (λ (s : Range). IsOutside s.base s.size x)
+
+-- the regions of a module in memory
+pub module_in_memory : (w : World) (m : ℕ) → IsWorld w → m < length w.modules
+    → Contains w.memory.regions (code_region m (module_at w.modules m)) × Contains w.memory.regions (data_region m (module_at w.modules m))
+module_in_memory w m world below =
+    subst (λ rs. Contains rs (code_region m (module_at w.modules m)) × Contains rs (data_region m (module_at w.modules m))) (sym world.regions)
+    (module_stands w.modules 0 m m (omega arith) below)
+
+pub code_is_in_no_frame : RunningIsReady → ReadyIsThread → CodeIsInNoFrame
+code_is_in_no_frame is_ready is_thread w e m x world code =
+    event_spares is_ready is_thread w e (code_region m (module_at w.modules m)) x world (module_in_memory w m world code.0).0 (λ t runs. refl) code.1 code.2
+
+-- no other module has the bit of one
+other_bit : (m n : ℕ) → n ≢ m → lets_store n (data_region m (module_at [] 0)) ≡ false
+other_bit m n other = ap (λ b. b == 1) (bit_at-pow_other m n other)
+
+pub others_data_is_in_no_frame : RunningIsReady → ReadyIsThread → OthersDataIsInNoFrame
+others_data_is_in_no_frame is_ready is_thread w t m x world runs other own =
+    event_spares is_ready is_thread w Step (data_region m (module_at w.modules m)) x world (module_in_memory w m world own.0).1
+    (λ u runs_too. let same : t ≡ u = cc in subst (λ v. lets_store (module_of w.kernel v) (data_region m (module_at w.modules m)) ≡ false) same (other_bit m (module_of w.kernel t) other))
+    own.1 own.2
+
+-- a fault
+pub fault_spares_others : HaltSparesThreads → FaultSparesOthers
+unfolding after_fault
+fault_spares_others spares w t u cause world runs faults is other =
+    let kept = spares w.kernel (module_of w.kernel t) u world.kernel is other in
+    subst (λ (p : Parts). (is_thread p.kernel u ≡ true) × (thread p.kernel u ≡ thread w.kernel u)) (sym (stepped_is w t (Faults cause) runs faults)) kept
+
+pub fault_keeps_bytes : FaultKeepsBytes
+unfolding after_fault
+fault_keeps_bytes w t cause runs faults = ap (λ (p : Parts). p.memory) (stepped_is w t (Faults cause) runs faults)

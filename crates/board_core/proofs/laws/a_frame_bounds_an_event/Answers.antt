@@ -1,0 +1,15 @@
+use Rattle.board_core.proofs.Frames.{Lower, frame_law}
+use Rattle.board_core.proofs.laws.a_frame_bounds_an_event.Goals as goal
+
+pub returns : goal.returns
+returns c =
+    let lower : Lower = record {
+      is_ready = c.who_runs_is_a_thread.ensures.running_is_ready;
+      is_thread = c.who_runs_is_a_thread.ensures.ready_is_thread;
+      length_stays = c.a_write_changes_its_range_alone.ensures.length_stays;
+      width = c.a_number_lies_lowest_byte_first.ensures.width_is_length;
+      outside_stays = c.a_write_changes_its_bytes_alone.ensures.outside_stays;
+      in_ram = c.what_may_be_used_is_in_ram.ensures.in_ram;
+      call = c.a_call_writes_its_result_alone.ensures;
+    } in
+    record { frame = frame_law lower }

@@ -1,0 +1,6 @@
+use Rattle.std.proofs.Common.{◌≡◌}
+use Rattle.board_core.specs.Report.{each, module_row}
+use Rattle.board_core.proofs.rows.module_rows.Given as goal
+
+abbrev pub invariant-loop-m : goal.invariant-loop-m
+invariant-loop-m l = l.rows.items ≡ each l.m (module_row l.board l.modules)

@@ -1,0 +1,45 @@
+//! What holds of every event, whatever the board: each function's contract is a law.
+ghost use Rattle.board_core.specs.Laws.{FrameLaw, RegionsStay, ImagesStay, CodeIsInNoFrame, OthersDataIsInNoFrame, FaultSparesOthers, FaultKeepsBytes};
+
+use call_dispatch::laws::a_call_writes_its_result_alone;
+use flat_ram::{a_number_lies_lowest_byte_first, a_write_changes_its_range_alone};
+use kernel_state::laws::who_runs_is_a_thread;
+use module_manager::laws::a_halt_spares_other_modules;
+use region_guard::{a_write_changes_its_bytes_alone, what_may_be_used_is_in_ram};
+
+/// An event changes no byte outside of its frame.
+pub fn a_frame_bounds_an_event()
+    ensures frame { FrameLaw }
+{
+    who_runs_is_a_thread();
+    a_write_changes_its_range_alone();
+    a_number_lies_lowest_byte_first();
+    a_write_changes_its_bytes_alone();
+    what_may_be_used_is_in_ram();
+    a_call_writes_its_result_alone();
+}
+
+/// An event changes no region, nor where a module lies and of what it is made, nor its image.
+pub fn an_event_keeps_regions_and_images()
+    ensures regions { RegionsStay }
+    ensures images { ImagesStay }
+{
+    who_runs_is_a_thread();
+    a_write_changes_its_range_alone();
+    a_number_lies_lowest_byte_first();
+    a_write_changes_its_bytes_alone();
+    what_may_be_used_is_in_ram();
+    a_call_writes_its_result_alone();
+}
+
+/// No event writes code, and a step writes no data of a module but that of the thread that runs; a
+/// fault changes no thread of another module, and no byte.
+pub fn a_module_is_spared()
+    ensures code { CodeIsInNoFrame }
+    ensures data { OthersDataIsInNoFrame }
+    ensures fault { FaultSparesOthers }
+    ensures bytes { FaultKeepsBytes }
+{
+    who_runs_is_a_thread();
+    a_halt_spares_other_modules();
+}

@@ -1,0 +1,91 @@
+//! What a report tells of a machine.
+ghost use Rattle.std.specs.Prelude.{◌≡◌, IfOk};
+ghost use Rattle.board_report.specs.Printable.{IsPrintable};
+ghost use Rattle.board_core.specs.Laws.{IsWorld};
+ghost use Rattle.board_core.specs.Machine.{shown};
+ghost use Rattle.board_core.specs.Report.{report_of};
+ghost use Rattle.board_core.specs.Run.{run};
+
+use crate::device::Device;
+use crate::machine::Machine;
+use crate::rows::{device_rows, module_rows, numbers, object_rows, thread_rows};
+use crate::shows::show_rows;
+use board_file::Board;
+use board_values::{Report, Totals};
+use event_log::History;
+use kernel_state::Kernel;
+use module_manager::Manager;
+use region_guard::Guard;
+use std::alloc::Global;
+use tx_types::NoMemory;
+
+/// The number of the running thread.
+fn running(kernel: &Kernel) -> Option<u16>
+    ensures { result ≡ kernel.now.ready.run }
+{
+    match kernel.running() {
+        Some(t) => Some(t.number()),
+        None => None,
+    }
+}
+
+/// No wait begins yet.
+const NO_WAITS: Totals = Totals {
+    begun: 0,
+    satisfied: 0,
+    timed_out: 0,
+    aborted: 0,
+    deleted: 0,
+    gone: 0,
+};
+
+/// The report on a board by its parts and its history.
+#[tactic(auto, unfolding(crate::specs::Report::report_of))]
+fn report(
+    alloc: Global,
+    board: &Board,
+    kernel: &Kernel,
+    guard: &Guard,
+    modules: &Manager,
+    devices: &[Device],
+    history: &History,
+) -> Result<Report, NoMemory>
+    requires { IsWorld (shown board.now kernel.now guard.now modules.now devices.now history.now.entries) }
+    ensures report { IfOk result (λ r. r
+        ≡ report_of (shown board.now kernel.now guard.now modules.now devices.now history.now.entries)) }
+    ensures printable { IfOk result IsPrintable }
+{
+    Ok(Report {
+        steps: history.steps(),
+        irqs: history.irqs(),
+        ticks: 0,
+        clock: 0,
+        running: running(kernel),
+        held: numbers(alloc, &kernel.ready.held_list(alloc)?)?,
+        ready: numbers(alloc, &kernel.ready.ready_list(alloc)?)?,
+        totals: NO_WAITS,
+        modules: module_rows(alloc, board, modules)?,
+        threads: thread_rows(alloc, kernel)?,
+        objects: object_rows(alloc, kernel)?,
+        devices: device_rows(alloc, board, devices)?,
+        shows: show_rows(alloc, board, guard, modules)?,
+    })
+}
+
+impl Machine {
+    /// The report on the board as its events left it.
+    pub fn look(&self, alloc: Global) -> Result<Report, NoMemory>
+        ensures report { IfOk result (λ r. r ≡ report_of (run self.now.origin self.now.history)) }
+        ensures printable { IfOk result IsPrintable }
+    {
+        report(
+            alloc,
+            &self.board,
+            &self.kernel,
+            &self.guard,
+            &self.modules,
+            &self.devices,
+            &self.history,
+        )
+    }
+}

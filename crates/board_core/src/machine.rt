@@ -1,0 +1,146 @@
+//! The machine: a board on which events are made, and the history of them.
+//!
+//! Its type keeps that the parts show what the written machine reaches from the board and the images
+//! by that history. Every event's memory was taken at boot, and each event always returns.
+ghost use Rattle.std.specs.Prelude.{◌≡◌, ◌<◌, ◌≤◌, length};
+ghost use Rattle.event_log.specs.Log.{irq_count, step_count, with_irq, with_step};
+ghost use Rattle.kernel_state.specs.Sound.{IsSound};
+ghost use Rattle.region_guard.specs.Memory.{IsSound as IsSoundMemory};
+ghost use Rattle.module_manager.specs.Modules.{module_at};
+ghost use Rattle.board_core.specs.Action.{acted, device_of, status_of};
+ghost use Rattle.board_core.specs.Run.{run};
+ghost use Rattle.board_core.specs.World.{device_at, with_taken};
+
+use crate::action::act;
+use crate::device::Device;
+use crate::laws::an_event_keeps_regions_and_images;
+use crate::step::step;
+use board_file::Board;
+use board_values::DevNo;
+use event_log::{History, a_history_grows_by_one_event};
+use kernel_state::Kernel;
+use module_loader::Placed;
+use module_manager::Manager;
+use region_guard::Guard;
+use std::marker::Model;
+use tx_types::{Code, ModNo};
+
+/// A booted board and the events that were made on it.
+#[derive(Drop)]
+pub struct Machine {
+    pub(crate) board: Board,
+    pub(crate) kernel: Kernel,
+    pub(crate) guard: Guard,
+    pub(crate) modules: Manager,
+    pub(crate) devices: Vec<Device>,
+    pub(crate) history: History,
+}
+
+impl Model for Machine {
+    ghost use Rattle.std.specs.Prelude.{◌≡◌};
+    ghost use Rattle.board_core.specs.Machine.{Recorded, Stands, origin_of};
+
+    ghost Value = { Recorded };
+
+    ghost view = { λ m. record {
+      origin = origin_of m.board m.guard m.modules;
+      history = m.history.entries;
+      irqs = m.history.irqs;
+    } };
+
+    ghost invariant = { λ m. Stands m.board m.kernel m.guard m.modules m.devices.items m.history.entries };
+}
+
+impl Machine {
+    /// Makes one step: the running thread's next instruction, with its whole call where that is an
+    /// ECALL, or nothing where no thread runs.
+    pub fn step(&mut self)
+        requires { step_count self.old.history < 100000000 }
+        ensures { self.new ≡ record self.old { history = with_step self.old.history } }
+    {
+        a_history_grows_by_one_event();
+        an_event_keeps_regions_and_images();
+        step(&mut self.kernel, &mut self.guard, &mut self.modules);
+        is_guarded(&self.guard);
+        self.history.add_step();
+    }
+
+    /// Takes one interrupt of device d with word w: the device's action is made, and the device keeps
+    /// its status.
+    pub fn take(&mut self, d: DevNo, w: u32)
+        requires room { irq_count self.old.history < self.old.irqs }
+        requires device { d < length self.old.origin.board.devices }
+        ensures { self.new ≡ record self.old { history = with_irq d w self.old.history } }
+    {
+        a_history_grows_by_one_event();
+        an_event_keeps_regions_and_images();
+        let status = act_for(&self.board, &mut self.kernel, &mut self.guard, d, w);
+        is_guarded(&self.guard);
+        let _ = self.history.room();
+        note_taken(&mut self.devices, d, status);
+        self.history.add_irq(d, w);
+    }
+
+    /// The events so far.
+    pub fn history(&self) -> &History
+        ensures history { result.now.entries ≡ self.now.history }
+        ensures room { result.now.irqs ≡ self.now.irqs }
+    {
+        &self.history
+    }
+
+    /// The board that the machine keeps.
+    pub fn board(&self) -> &Board
+        ensures { result.now ≡ self.now.origin.board }
+    {
+        &self.board
+    }
+
+    /// Where a module lies.
+    pub fn placed(&self, m: ModNo) -> Placed
+        requires { m < length self.now.origin.board.modules }
+        ensures { result ≡ (module_at (run self.now.origin self.now.history).modules m).placed }
+    {
+        self.modules.row(m).placed
+    }
+
+    /// The status of a device's last action; SUCCESS before the first.
+    pub fn last(&self, d: DevNo) -> Code
+        requires { d < length self.now.origin.board.devices }
+        ensures { result ≡ (device_at (run self.now.origin self.now.history).devices d).last }
+    {
+        self.devices[d.number() as usize].last
+    }
+}
+
+/// What holds of all guarded memory.
+#[inline]
+fn is_guarded(g: &Guard)
+    ensures { IsSoundMemory g.now }
+{
+    let _ = g.regions();
+}
+
+/// Makes the action of a device of the board on a word, and gives its status.
+fn act_for(board: &Board, k: &mut Kernel, g: &mut Guard, d: DevNo, word: u32) -> Code
+    requires sound { IsSound k.old }
+    requires device { d < length board.now.devices }
+    ensures kernel { k.new ≡ (acted k.old g.old (device_of board.now d).action (device_of board.now d).target word).kernel }
+    ensures memory { g.new ≡ (acted k.old g.old (device_of board.now d).action (device_of board.now d).target word).memory }
+    ensures status { result ≡ status_of (acted k.old g.old (device_of board.now d).action (device_of board.now d).target word).answer }
+    ensures sound { IsSound k.new }
+{
+    let device = &board.devices.items()[d.number() as usize];
+    act(k, g, device.action, &device.target, word)
+}
+
+/// One interrupt more was taken of a device, and its action had this status.
+fn note_taken(devices: &mut Vec<Device>, d: DevNo, status: Code)
+    requires device { d < length devices.old.items }
+    requires room { (device_at devices.old.items d).taken < 65536 }
+    ensures { devices.new.items ≡ with_taken devices.old.items d status }
+{
+    let device = &mut devices[d.number() as usize];
+    device.taken += 1;
+    device.last = status;
+}

@@ -1,0 +1,43 @@
+//! A machine as what stands for a world: a history can be made again on it.
+use crate::machine::Machine;
+use board_values::{DevNo, Report};
+use event_log::{Replayer, a_history_grows_by_one_event};
+use std::alloc::Global;
+use tx_types::NoMemory;
+
+impl Replayer for Machine {
+    ghost use Rattle.std.specs.Prelude.{length, ◌-◌};
+    ghost use Rattle.event_log.specs.Log.{irq_count, step_count};
+    ghost use Rattle.board_core.specs.Next.{next};
+    ghost use Rattle.board_core.specs.Report.{report_of};
+    ghost use Rattle.board_core.specs.Run.{run};
+    ghost use Rattle.board_core.specs.World.{World};
+
+    ghost World = { World };
+
+    ghost world = { λ m. run m.origin m.history };
+
+    ghost next = { next };
+
+    ghost report = { report_of };
+
+    ghost devices = { λ m. length m.origin.board.devices };
+
+    ghost steps_left = { λ m. 100000000 - step_count m.history };
+
+    ghost irqs_left = { λ m. m.irqs - irq_count m.history };
+
+    fn step(&mut self) {
+        a_history_grows_by_one_event();
+        Machine::step(self);
+    }
+
+    fn take(&mut self, d: DevNo, w: u32) {
+        a_history_grows_by_one_event();
+        Machine::take(self, d, w);
+    }
+
+    fn look(&self, alloc: Global) -> Result<Report, NoMemory> {
+        Machine::look(self, alloc)
+    }
+}
