@@ -1,12 +1,15 @@
 -- From how a call ended to what it may answer.
-use Rattle.std.proofs.Common.{◌≡◌, ℕ, List, Option, Some, None, Result, Ok, IfSome, ◌⊎◌, inl, inr, ap, sym, subst, refl}
+use Rattle.std.proofs.Common.{◌≡◌, ℕ, List, Option, Some, None, Result, Ok, Err, IfSome, MatchResult, ◌⊎◌, inl, inr, ap, sym, subst, refl}
 use Rattle.std.specs.Io.KnownBytes.{Appends}
 use Rattle.std.specs.Option.{option_map}
 use Rattle.board_run.specs.Answer.{Answers, Completes}
 use Rattle.board_run.specs.Command.{Row, row_of}
-use Rattle.board_run.specs.Due.{Due, due, due_of, row_due, row_text, usage_line, ◌>>=◌}
+use Rattle.board_run.specs.Due.{Due, due, due_of, row_due, row_text, usage_line}
 use Rattle.board_run.specs.Ending.{Ends, EndsStopped}
+use Rattle.board_run.specs.Faults.{Rose}
 use Rattle.board_run.specs.Reading.{Stops}
+use Rattle.board_run.specs.Sink.{Wrote}
+use Rattle.board_run.specs.Step.{◌>>=◌}
 use Rattle.board_run.specs.declared.refusal.Stop.{Stop}
 use Rattle.board_run.specs.declared.refusal.Stop.TheVariants.{ReadFault, Refused, NoMemory}
 use Rattle.board_run.specs.declared.status.Status.{Status}
@@ -46,7 +49,10 @@ stopped_answers first text (Some a) f s old new ReadFault result why ends =
     ] in
     subst (λ r. Answers due f s old new r) (sym ends.0) (fault, ends.1)
 stopped_answers first text (Some a) f s old new (Refused refusal) result why ends =
-    ends_answers _ f s old new _ StatusRefused result refused (ap (λ r. due_of (r >>= λ x. Ok (text x))) why) ends
+    elim ends [
+      | inl printed ↦ ends_answers _ f s old new _ StatusRefused result refused (ap (λ r. due_of (r >>= λ x. Ok (text x))) why) printed
+      | inr none ↦ subst (λ r. Answers (due_of (first a >>= λ x. Ok (text x))) f s old new r) (sym none.0) none.1
+    ]
 stopped_answers first text (Some a) f s old new NoMemory result why ends =
     subst (λ r. Answers (due_of (first a >>= λ x. Ok (text x))) f s old new r) (sym ends.0) ends.1
 
@@ -55,6 +61,11 @@ pub written_answers : {A X : Type 0} (first : A → Result X Stop) (text : X →
 written_answers first text None f s old new x result is ends = tt
 written_answers first text (Some a) f s old new x result is ends =
     ends_answers _ f s old new _ Done result done (ap (λ r. due_of (r >>= λ y. Ok (text y))) is) ends
+
+-- how a call ends whose text was written, or not whole
+pub done_ends : {T E : Type 0} (before now : ℕ) (old new : Option (List ℕ)) (text : List ℕ) (written : Result T E) (result : Status) → Wrote before now old new text written → MatchResult written (λ _. result ≡ Done) (λ _. result ≡ WriteFault) → Ends (Rose before now) old new text Done result
+done_ends before now old new text (Ok v) result wrote is = inl (is, wrote)
+done_ends before now old new text (Err e) result wrote is = inr (is, wrote.0, wrote.1)
 
 -- words in no row of the command table
 pub usage_answers : (words : List (List ℕ)) (known : Option (List ℕ → Option (List ℕ))) (f s : Type 0) (old new : Option (List ℕ)) (result : Status) → row_of words ≡ None → Ends s old new usage_line Usage result → IfSome known (λ at. Answers (due words at) f s old new result)

@@ -1,6 +1,11 @@
 pub mod Answering
+pub mod ElementTexts
 pub mod Fronts
+pub mod Loading
+pub mod LyingAlone
+pub mod ModuleLines
 pub mod Numbers
+pub mod Places
 pub mod Running
-pub mod Steps
+pub mod Step
 pub mod Writing

@@ -10,6 +10,8 @@ use Rattle.board_run.specs.declared.command.Command.TheVariants as command
 -- a command with its operands
 pub data Row : Type 0 where
   Hart : (image : List ℕ) (most : ℕ) → Row
+  Check : (board : List ℕ) → Row
+  Replay : (board log : List ℕ) → Row
 
 -- the number of a word, which is its decimal text (so no sign and no leading zero), where it is at most so much
 unfoldable pub number : List ℕ → (most : ℕ) → Option ℕ
@@ -21,11 +23,27 @@ unfoldable pub hart_row : List (List ℕ) → Option Row
 hart_row (image ∷ steps ∷ []) = option_map (Hart image) (number steps 100000000)
 hart_row _ = None
 
+-- check BOARD
+unfoldable pub check_row : List (List ℕ) → Option Row
+check_row (board ∷ []) = Some (Check board)
+check_row _ = None
+
+-- replay BOARD LOG
+unfoldable pub replay_row : List (List ℕ) → Option Row
+replay_row (board ∷ log ∷ []) = Some (Replay board log)
+replay_row _ = None
+
 -- the first word names the command, and each command has its own number of words
 unfoldable pub row_of : List (List ℕ) → Option Row
 row_of [] = None
-row_of (name ∷ words) = if bytes_eq name (codes "hart") then hart_row words else None
+row_of (name ∷ words) =
+    if bytes_eq name (codes "hart") then hart_row words
+    else if bytes_eq name (codes "check") then check_row words
+    else if bytes_eq name (codes "replay") then replay_row words
+    else None
 
 -- a command as a row
 abbrev pub row : Command → Row
 row (command.Hart image most) = Hart image.now most
+row (command.Check board) = Check board.now
+row (command.Replay board log) = Replay board.now log.now

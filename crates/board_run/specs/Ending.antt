@@ -13,8 +13,9 @@ abbrev pub Ends : (sink_rose : Type 0) → (old new : Option (List ℕ)) → Lis
 Ends sink_rose old new text status result =
     ((result ≡ status) × Appends old new text) ⊎ ((result ≡ WriteFault) × sink_rose × AppendsFront old new text)
 
--- a call that stopped: a refusal is printed, and nothing else
+-- a call that stopped: a refusal is printed, where there is memory for its line, and nothing else
 abbrev pub EndsStopped : (sink_rose : Type 0) → (old new : Option (List ℕ)) → Stop → Status → Type 0
 EndsStopped sink_rose old new ReadFault result = (result ≡ StatusReadFault) × Keeps old new
 EndsStopped sink_rose old new NoMemory result = (result ≡ StatusNoMemory) × Keeps old new
-EndsStopped sink_rose old new (Refused refusal) result = Ends sink_rose old new (refusal_line refusal) StatusRefused result
+EndsStopped sink_rose old new (Refused refusal) result =
+    Ends sink_rose old new (refusal_line refusal) StatusRefused result ⊎ ((result ≡ StatusNoMemory) × Keeps old new)

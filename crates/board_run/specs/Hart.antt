@@ -1,6 +1,6 @@
 -- The run of one image alone, and its text.
 use Rattle.std.specs.Prelude.{ℕ, zero, suc, ◌+◌, List, ◌++◌, drop, codes, decimal}
-use Rattle.std.specs.List.{flat_map}
+use Rattle.board_report.specs.Parts.{newline, words_text}
 use Rattle.tx_types.specs.Line.{hex}
 use Rattle.rv_core.specs.Cause.{cause_number}
 use Rattle.rv_core.specs.Execute.{Effect, Completes, Stores, Calls, Faults, executed}
@@ -37,18 +37,11 @@ end_text Count = codes "count"
 end_text Call = codes "call"
 end_text (Fault cause) = codes "fault " ++ decimal (cause_number cause)
 
-abbrev pub newline : List ℕ
-newline = codes "\n"
-
 unfoldable pub steps_line : Ran → List ℕ
 steps_line r = codes "hart steps " ++ decimal r.steps ++ codes " end " ++ end_text r.end ++ newline
 
 unfoldable pub pc_line : Ran → List ℕ
 pc_line r = codes "pc " ++ hex r.hart.pc ++ newline
-
--- words in hexadecimal, each after a space
-abbrev pub words_text : List ℕ → List ℕ
-words_text words = flat_map (λ word. codes " " ++ hex word) words
 
 -- x1 to x31
 unfoldable pub regs_line : Ran → List ℕ

@@ -1,5 +1,7 @@
 pub mod Alone
 pub mod Answer
+pub mod Boards
+pub mod Check
 pub mod Command
 pub mod Distinct
 pub mod Due
@@ -7,8 +9,12 @@ pub mod Ending
 pub mod Faults
 pub mod Files
 pub mod Hart
-pub mod Opening
+pub mod Held
+pub mod Placing
 pub mod Reading
 pub mod Refusal
+pub mod Refused
+pub mod Replay
 pub mod Sink
 pub mod Status
+pub mod Step

@@ -1,5 +1,5 @@
 -- What a helper answers that reads files.
-use Rattle.std.specs.Prelude.{◌≡◌, ◌⊎◌, Option, Some, Result, Ok, Err, IfSome, MatchOption}
+use Rattle.std.specs.Prelude.{◌≡◌, ◌⊎◌, Option, Result, Ok, Err, IfSome, MatchOption}
 use Rattle.board_run.specs.declared.refusal.Stop.{Stop}
 use Rattle.board_run.specs.declared.refusal.Stop.TheVariants.{ReadFault, Refused, NoMemory}
 
@@ -14,6 +14,12 @@ abbrev pub Gives : {X Y : Type 0} → (Y → X) → Option (Result X Stop) → T
 Gives view due rose (Ok y) = IfSome due (λ d. d ≡ Ok (view y))
 Gives view due rose (Err stop) = Stops due rose stop
 
--- the same of a helper that reads nothing: what is due is known, and no count rises
-abbrev pub GivesHere : {X : Type 0} → Result X Stop → Result X Stop → Type 0
-GivesHere due result = Gives (λ x. x) (Some due) ⊥ result
+-- the same of a helper that reads nothing: what is due is known, and there is no fault of reading
+abbrev pub StopsHere : {X : Type 0} → Result X Stop → Stop → Type 0
+StopsHere due ReadFault = ⊥
+StopsHere due (Refused refusal) = due ≡ Err (Refused refusal)
+StopsHere due NoMemory = Unit {0}
+
+abbrev pub GivesHere : {X Y : Type 0} → (Y → X) → Result X Stop → Result Y Stop → Type 0
+GivesHere view due (Ok y) = due ≡ Ok (view y)
+GivesHere view due (Err stop) = StopsHere due stop

@@ -1,12 +1,13 @@
 -- The line of a refusal.
-use Rattle.std.specs.Prelude.{ℕ, ◌++◌, List, [], Option, Some, None, codes, decimal}
+use Rattle.std.specs.Prelude.{ℕ, ◌++◌, List, [], Option, Some, None, map, codes, decimal}
+use Rattle.board_report.specs.Parts.{graphic, newline}
 use Rattle.tx_types.specs.Line.{hex}
 use Rattle.module_preamble.specs.Refusal.{name_of, number_of, word_of}
 use Rattle.module_preamble.specs.declared.refusal.PreErr.{PreErr}
 use Rattle.board_run.specs.declared.files.ReadErr.{ReadErr}
 use Rattle.board_run.specs.declared.files.ReadErr.TheVariants.{Failed, Missing, NoMemory}
 use Rattle.board_run.specs.declared.refusal.Refusal.{Refusal}
-use Rattle.board_run.specs.declared.refusal.Refusal.TheVariants.{ImageTooLarge, Image}
+use Rattle.board_run.specs.declared.refusal.Refusal.TheVariants.{BoardTooLarge, NotToml, Field, ImageTooLarge, LogTooLarge, LogLine, Image, Room}
 use Rattle.board_run.specs.declared.refusal.Stop.{Stop}
 use Rattle.board_run.specs.declared.refusal.Stop.TheVariants.{ReadFault, NoMemory as StopNoMemory}
 
@@ -21,11 +22,17 @@ rule_text err = name_of err ++ spaced decimal (number_of err) ++ spaced hex (wor
 
 -- what is refused, and why
 abbrev pub refusal_text : Refusal → List ℕ
+refusal_text BoardTooLarge = codes "board too large"
+refusal_text NotToml = codes "board: not toml"
+refusal_text (Field path) = codes "board: " ++ map graphic path
 refusal_text (ImageTooLarge image) = codes "image " ++ decimal image ++ codes " too large"
+refusal_text LogTooLarge = codes "log too large"
+refusal_text (LogLine line) = codes "log: line " ++ decimal line
 refusal_text (Image image err) = codes "image " ++ decimal image ++ codes ": " ++ rule_text err
+refusal_text (Room image) = codes "room " ++ decimal image
 
 abbrev pub refusal_line : Refusal → List ℕ
-refusal_line refusal = codes "refused " ++ refusal_text refusal ++ codes "\n"
+refusal_line refusal = codes "refused " ++ refusal_text refusal ++ newline
 
 -- a file that isn't there is a fault of reading
 abbrev pub stop_of : ReadErr → Stop

@@ -1,14 +1,18 @@
-//! The memory of an image that lies alone, as module 0.
-ghost use Rattle.std.specs.Prelude.{◌≡◌, ◌+◌, ◌≤◌, ◌<◌, ◌^◌, ◌++◌, ◌∷◌, [], length, IfOk, None, position};
+//! An image that lies alone in RAM, as module 0: its place, and its memory.
+ghost use Rattle.std.specs.Prelude.{◌≡◌, ◌+◌, ◌≤◌, ◌<◌, ◌^◌, ◌++◌, ◌∷◌, [], length, IfOk, None, Ok, position};
+ghost use Rattle.module_loader.specs.Want.{HasSizes};
+ghost use Rattle.module_preamble.specs.Preamble.{IsAccepted};
 ghost use Rattle.region_guard.specs.Memory.{IsInRam};
 ghost use Rattle.region_guard.specs.Region.{meets};
-ghost use Rattle.board_run.specs.Alone.{alone, data_bytes, code_region, data_region};
-ghost use Rattle.board_run.specs.Opening.{IsPlaceable};
+ghost use Rattle.board_run.specs.Alone.{alone, alone_at, code_region, data_region};
+ghost use Rattle.board_run.specs.Reading.{GivesHere};
 
-use crate::opening::{data_base, rounded_up};
+use crate::placing::placed;
+use crate::refusal::Stop;
 use flat_ram::Ram;
+use module_loader::{Placed, load, want_of};
 use module_preamble::Preamble;
-use region_guard::{Guard, RAM_BASE, Region, Rights};
+use region_guard::{Guard, Region, Rights};
 use std::alloc::Global;
 use tx_types::NoMemory;
 
@@ -18,30 +22,47 @@ pub const RAM_ALONE: u32 = 4_194_304;
 /// The bit of module 0 among the modules of a region.
 const MODULE_0: u16 = 1;
 
-/// The memory of an image that lies alone in RAM of a size: its code at the start, its data region
-/// behind it.
+/// The place of an accepted image that lies alone, which always finds room.
+#[tactic(auto, using(crate::proofs::LyingAlone::places_alone, crate::proofs::Step::never_stops))]
+pub fn place_alone(alloc: Global, p: &Preamble) -> Result<Placed, Stop>
+    requires sizes { HasSizes p.now }
+    requires code { p.now.code_size ≤ 1048576 }
+    ensures { GivesHere (λ at. at) (Ok (alone_at p.now)) result }
+{
+    let places = placed(alloc, RAM_ALONE, &[want_of(p)])?;
+    Ok(places[0])
+}
+
+/// The memory of an image that lies alone in RAM of a size.
 #[tactic(auto, unfolding(crate::specs::Alone::alone))]
-pub fn memory_alone(alloc: Global, size: u32, p: &Preamble, image: &[u8]) -> Result<Guard, NoMemory>
+pub fn memory_alone(
+    alloc: Global,
+    size: u32,
+    p: &Preamble,
+    at: Placed,
+    image: &[u8],
+) -> Result<Guard, NoMemory>
     requires room { 4194304 ≤ size }
     requires addressable { size ≤ 2 ^ 31 }
-    requires code { p.now.code_size ≡ length image.now }
-    requires placeable { IsPlaceable p.now }
-    ensures { IfOk result (λ g. g ≡ alone size p.now image.now) }
+    requires accepted { IsAccepted image.now p.now }
+    requires small { length image.now ≤ 1048576 }
+    requires place { at ≡ alone_at p.now }
+    ensures { IfOk result (λ g. g ≡ alone size p.now at image.now) }
 {
     let mut ram = Ram::new(alloc, size).map_err(|_| NoMemory)?;
-    ram.copy_in(0, image);
+    load(&mut ram, image, at);
     let mut guard = Guard::new(alloc, ram)?;
-    add(&mut guard, code_region(p));
-    add(&mut guard, data_region(p));
+    add(&mut guard, code_region(p, at));
+    add(&mut guard, data_region(p, at));
     Ok(guard)
 }
 
 /// The region of the code.
-fn code_region(p: &Preamble) -> Region
-    ensures { result ≡ code_region p.now }
+fn code_region(p: &Preamble, at: Placed) -> Region
+    ensures { result ≡ code_region p.now at }
 {
     Region {
-        base: RAM_BASE,
+        base: at.code_base,
         size: p.code_size,
         rights: Rights::Code,
         who: MODULE_0,
@@ -49,29 +70,16 @@ fn code_region(p: &Preamble) -> Region
 }
 
 /// The region of the data and the stacks.
-fn data_region(p: &Preamble) -> Region
-    requires { IsPlaceable p.now }
-    ensures { result ≡ data_region p.now }
+fn data_region(p: &Preamble, at: Placed) -> Region
+    requires { HasSizes p.now }
+    ensures { result ≡ data_region p.now at }
 {
     Region {
-        base: data_base(p),
-        size: data_bytes(p),
+        base: at.data_base,
+        size: want_of(p).data_bytes,
         rights: Rights::ReadWrite,
         who: MODULE_0,
     }
-}
-
-/// The size of the data and the stacks.
-fn data_bytes(p: &Preamble) -> u32
-    requires { IsPlaceable p.now }
-    ensures { result ≡ data_bytes p.now }
-{
-    let callback = if p.has_callback() {
-        rounded_up(p.callback_stack, 16)
-    } else {
-        0
-    };
-    rounded_up(p.data_size, 16) + rounded_up(p.start_stack, 16) + callback
 }
 
 /// Adds a region that meets no other.

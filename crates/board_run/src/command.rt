@@ -4,7 +4,7 @@
 //! command. Operands are borrowed from the words.
 ghost use Rattle.std.specs.Prelude.{◌≡◌, map, string_bytes};
 ghost use Rattle.std.specs.Option.{option_map};
-ghost use Rattle.board_run.specs.Command.{number, hart_row, row_of, row};
+ghost use Rattle.board_run.specs.Command.{number, hart_row, check_row, replay_row, row_of, row};
 
 use itoa::Buffer;
 
@@ -16,6 +16,10 @@ const MOST_STEPS: u32 = 100_000_000;
 pub enum Command<'a> {
     /// Execute at most `most` instructions of the module image in the file `image`.
     Hart { image: &'a str, most: u32 },
+    /// Read the board in the file `board` and its images, and say where its modules lie.
+    Check { board: &'a str },
+    /// Make the history in the file `log` on the board in the file `board`.
+    Replay { board: &'a str, log: &'a str },
 }
 
 /// The command that the words after the program's name ask for, or none where they are in no row of
@@ -27,6 +31,8 @@ pub fn command_of(words: &[String]) -> Option<Command<'_>>
     let (name, operands) = words.split_first()?;
     match name.as_str() {
         "hart" => hart(operands),
+        "check" => check(operands),
+        "replay" => replay(operands),
         _ => None,
     }
 }
@@ -43,6 +49,31 @@ fn hart(operands: &[String]) -> Option<Command<'_>>
                 most,
             })
         }
+        _ => None,
+    }
+}
+
+#[tactic(auto, unfolding(crate::specs::Command::check_row))]
+fn check(operands: &[String]) -> Option<Command<'_>>
+    ensures { option_map row result ≡ check_row (map string_bytes operands.now) }
+{
+    match operands {
+        [board] => Some(Command::Check {
+            board: board.as_str(),
+        }),
+        _ => None,
+    }
+}
+
+#[tactic(auto, unfolding(crate::specs::Command::replay_row))]
+fn replay(operands: &[String]) -> Option<Command<'_>>
+    ensures { option_map row result ≡ replay_row (map string_bytes operands.now) }
+{
+    match operands {
+        [board, log] => Some(Command::Replay {
+            board: board.as_str(),
+            log: log.as_str(),
+        }),
         _ => None,
     }
 }

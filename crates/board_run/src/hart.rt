@@ -1,26 +1,25 @@
 //! One module image, run alone.
 //!
 //! The image is module 0, and its code and data are all that it may use.
-ghost use Rattle.std.specs.Prelude.{◌≡◌, ◌+◌, ◌*◌, ◌≤◌, ◌++◌, length, IfOk};
+ghost use Rattle.std.specs.Prelude.{◌≡◌, ◌+◌, ◌≤◌, ◌++◌, length};
 ghost use Rattle.std.specs.Option.{option_map};
 ghost use Rattle.arrayvec.specs.ArrayString.{array_string_len};
-ghost use Rattle.module_preamble.specs.Preamble.{preamble};
 ghost use Rattle.rv_core.specs.Execute.{executed};
-ghost use Rattle.board_run.specs.Due.{refused_image, image_ran, hart_ran};
+ghost use Rattle.board_run.specs.Due.{image_ran, hart_ran};
 ghost use Rattle.board_run.specs.Faults.{Rose};
-ghost use Rattle.board_run.specs.Opening.{IsPlaceable};
 ghost use Rattle.board_run.specs.Reading.{Gives, GivesHere};
 ghost use Rattle.board_run.specs.Sink.{Wrote};
-ghost use Rattle.board_run.specs.Hart.{ran, memory_ran, hart_text, end_text, newline, steps_line, pc_line, regs_line, words_text};
+ghost use Rattle.board_run.specs.Hart.{ran, memory_ran, hart_text, end_text, steps_line, pc_line, regs_line};
 
-use crate::alone::{RAM_ALONE, memory_alone};
+use crate::alone::{RAM_ALONE, memory_alone, place_alone};
 use crate::files::Files;
-use crate::opening::opening;
+use crate::images::preamble_of;
 use crate::reading::{MOST_IMAGE, image_of};
-use crate::refusal::{Refusal, Stop};
+use crate::refusal::Stop;
 use crate::sink::{Sink, WriteErr};
 use board_core::GuardBus;
-use module_preamble::Preamble;
+use board_report::{end_line, put_words};
+use module_loader::opening;
 use region_guard::Guard;
 use rv_core::{Bus, Cause, Hart, Out, step};
 use std::alloc::Global;
@@ -42,32 +41,21 @@ pub struct Ran {
     pub hart: Hart,
 }
 
-/// The preamble of the image of a number, or its refusal.
-fn preamble_of(number: u8, image: &[u8]) -> Result<Preamble, Stop>
-    requires { length image.now ≤ MOST_IMAGE }
-    ensures preamble { result ≡ refused_image number (preamble image.now) }
-    ensures placeable { IfOk result IsPlaceable }
-    ensures code { IfOk result (λ p. p.code_size ≡ length image.now) }
-{
-    match module_preamble::read(image) {
-        Ok(p) => Ok(p),
-        Err(err) => Err(Stop::Refused(Refusal::Image(number, err))),
-    }
-}
-
 /// The run of an image that lies alone, for at most so many instructions, or its refusal.
-#[tactic(auto, using(crate::proofs::Steps::gives_one), unfolding(crate::specs::Due::image_ran))]
+#[tactic(auto, using(crate::proofs::LyingAlone::lies_alone), unfolding(crate::specs::Due::image_ran))]
 fn image_ran(alloc: Global, image: &[u8], most: u32) -> Result<Ran, Stop>
     requires { length image.now ≤ MOST_IMAGE }
-    ensures { GivesHere (image_ran most image.now) result }
+    ensures { GivesHere (λ r. r) (image_ran most image.now) result }
 {
     let p = preamble_of(0, image)?;
-    let mut guard = memory_alone(alloc, RAM_ALONE, &p, image)?;
-    Ok(memory_ran(&mut guard, opening(&p), most))
+    let at = place_alone(alloc, &p)?;
+    let mut guard = memory_alone(alloc, RAM_ALONE, &p, at, image)?;
+    let hart = opening(&p, at, p.start, false);
+    Ok(memory_ran(&mut guard, hart, most))
 }
 
 /// Reads an image and runs it alone, for at most so many instructions.
-#[tactic(auto, using(crate::proofs::Steps::gives_then, crate::proofs::Steps::stops_after, crate::proofs::Steps::image_reads_nothing), unfolding(crate::specs::Due::hart_ran))]
+#[tactic(auto, using(crate::proofs::Step::steps), unfolding(crate::specs::Due::hart_ran))]
 pub fn hart_ran<F: Files>(alloc: Global, name: &str, most: u32, files: &mut F) -> Result<Ran, Stop>
     ensures held { F.held files.new ≡ F.held files.old }
     ensures counted { F.faults files.old ≤ F.faults files.new }
@@ -141,14 +129,6 @@ fn put_end(line: &mut Line, end: End)
     }
 }
 
-/// Ends a line.
-fn end_line(line: &mut Line)
-    requires { array_string_len line.old + 1 ≤ 1280 }
-    ensures bytes { line.new.bytes ≡ line.old.bytes ++ newline }
-{
-    line.push_str("\n");
-}
-
 /// The line of the steps and the end.
 #[tactic(auto, unfolding(crate::specs::Hart::steps_line))]
 fn steps_line(ran: &Ran) -> Line
@@ -185,16 +165,4 @@ fn regs_line(ran: &Ran) -> Line
     put_words(&mut line, ran.hart.general());
     end_line(&mut line);
     line
-}
-
-/// Appends words, each after a space.
-fn put_words(line: &mut Line, words: &[u32])
-    requires { array_string_len line.old + 9 * length words.now ≤ 1280 }
-    ensures bytes { line.new.bytes ≡ line.old.bytes ++ words_text words.now }
-    ensures len { array_string_len line.new ≡ array_string_len line.old + 9 * length words.now }
-{
-    for word in words {
-        line.push_str(" ");
-        put_hex(line, *word);
-    }
 }

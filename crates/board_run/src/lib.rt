@@ -5,12 +5,18 @@
 #![tactic(auto)]
 
 mod alone;
+mod boards;
+mod check;
 mod command;
 mod files;
 mod hart;
-mod opening;
+mod images;
+mod placing;
 mod reading;
 mod refusal;
+mod replay;
+#[cfg(test)]
+mod samples;
 mod sink;
 mod status;
 mod still;

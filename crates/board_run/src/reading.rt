@@ -1,8 +1,8 @@
 //! Files read whole, and refused where they are too large.
-ghost use Rattle.std.specs.Prelude.{◌≡◌, ◌≤◌, length, IfOk};
+ghost use Rattle.std.specs.Prelude.{◌≡◌, ◌≤◌, ◌<◌, ◌^◌, length, IfOk};
 ghost use Rattle.std.specs.Option.{option_map};
-ghost use Rattle.board_run.specs.Due.{image_at};
 ghost use Rattle.board_run.specs.Faults.{Rose};
+ghost use Rattle.board_run.specs.Held.{file_at, image_at};
 ghost use Rattle.board_run.specs.Reading.{Gives};
 
 use crate::files::Files;
@@ -11,6 +11,28 @@ use std::alloc::Global;
 
 /// The most bytes that an image may have.
 pub const MOST_IMAGE: u32 = 1_048_576;
+
+/// The file of a name, which is refused where it has more than so many bytes.
+pub fn file_of<F: Files>(
+    alloc: Global,
+    name: &str,
+    most: u32,
+    too_large: Refusal,
+    files: &mut F,
+) -> Result<Vec<u8>, Stop>
+    requires { most < 2 ^ 31 }
+    ensures held { F.held files.new ≡ F.held files.old }
+    ensures counted { F.faults files.old ≤ F.faults files.new }
+    ensures file { Gives (λ v. v.items) (option_map (file_at most too_large name.now) (F.held files.old))
+        (Rose (F.faults files.old) (F.faults files.new)) result }
+    ensures within { IfOk result (λ v. length v.items ≤ most) }
+{
+    let bytes = files.read(alloc, name, most)?;
+    if bytes.len() > most as usize {
+        return Err(Stop::Refused(too_large));
+    }
+    Ok(bytes)
+}
 
 /// The image of a number, from the file of a name.
 pub fn image_of<F: Files>(
@@ -25,9 +47,11 @@ pub fn image_of<F: Files>(
         (Rose (F.faults files.old) (F.faults files.new)) result }
     ensures within { IfOk result (λ v. length v.items ≤ MOST_IMAGE) }
 {
-    let bytes = files.read(alloc, name, MOST_IMAGE)?;
-    if bytes.len() > MOST_IMAGE as usize {
-        return Err(Stop::Refused(Refusal::ImageTooLarge(number)));
-    }
-    Ok(bytes)
+    file_of(
+        alloc,
+        name,
+        MOST_IMAGE,
+        Refusal::ImageTooLarge(number),
+        files,
+    )
 }

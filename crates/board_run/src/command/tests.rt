@@ -1,15 +1,7 @@
 //! The words of a command line, each list with the command that it asks for.
 use super::{Command, command_of, number};
-use std::alloc::{AllocError, Global};
+use crate::samples::owned;
 use std::test::Fail;
-
-fn owned(alloc: Global, texts: &[&str]) -> Result<Vec<String>, AllocError> {
-    let mut words = Vec::new(alloc);
-    for text in texts {
-        words.push(String::from_str(alloc, text)?)?;
-    }
-    Ok(words)
-}
 
 #[test]
 fn numbers_are_decimal_texts(rt: HostRuntime) {
@@ -35,7 +27,7 @@ fn numbers_are_decimal_texts(rt: HostRuntime) {
 
 #[test]
 fn words_are_compared_whole(rt: HostRuntime) -> Result<(), Fail> {
-    let lists: [(&[&str], Option<Command<'_>>); 10] = [
+    let lists: [(&[&str], Option<Command<'_>>); 20] = [
         (
             &["hart", "p", "1"],
             Some(Command::Hart {
@@ -54,6 +46,22 @@ fn words_are_compared_whole(rt: HostRuntime) -> Result<(), Fail> {
                 most: 100_000_000,
             }),
         ),
+        (&["check", "b"], Some(Command::Check { board: "b" })),
+        (&["check", ""], Some(Command::Check { board: "" })),
+        (&["check", "check"], Some(Command::Check { board: "check" })),
+        (&["check"], None),
+        (&["check", "b", "b"], None),
+        (&["Check", "b"], None),
+        (
+            &["replay", "b", "l"],
+            Some(Command::Replay {
+                board: "b",
+                log: "l",
+            }),
+        ),
+        (&["replay"], None),
+        (&["replay", "b"], None),
+        (&["replay", "b", "l", "l"], None),
         (&[], None),
         (&["hart"], None),
         (&["hart", "p"], None),

@@ -1,10 +1,40 @@
 //! The line of each refusal.
 use super::Refusal;
+use board_file::Path;
 use module_preamble::PreErr;
+use std::alloc::{AllocError, Global};
+use std::test::Fail;
+
+/// The refusal of a field.
+fn field(alloc: Global, path: &str) -> Result<Refusal, AllocError> {
+    Ok(Refusal::Field(Path::new(String::from_str(alloc, path)?)))
+}
 
 #[test]
-fn lines_name_what_is_refused(rt: HostRuntime) {
+fn a_path_prints_its_graphic_bytes(rt: HostRuntime) -> Result<(), Fail> {
+    for (path, line) in [
+        ("ram", "refused board: ram\n"),
+        ("", "refused board: \n"),
+        ("module[1].!~", "refused board: module[1].!~\n"),
+        ("a b\t\u{7f}\n", "refused board: a.b...\n"),
+        ("é", "refused board: ..\n"),
+    ] {
+        let refusal = field(rt.alloc(), path)?;
+        assert_eq!(rt; refusal.line(rt.alloc())?.as_str(), line);
+    }
+    Ok(())
+}
+
+#[test]
+fn lines_name_what_is_refused(rt: HostRuntime) -> Result<(), Fail> {
     let rows = [
+        (Refusal::BoardTooLarge, "refused board too large\n"),
+        (Refusal::NotToml, "refused board: not toml\n"),
+        (Refusal::LogTooLarge, "refused log too large\n"),
+        (Refusal::LogLine(1), "refused log: line 1\n"),
+        (Refusal::LogLine(131_074), "refused log: line 131074\n"),
+        (Refusal::Room(0), "refused room 0\n"),
+        (Refusal::Room(15), "refused room 15\n"),
         (Refusal::ImageTooLarge(0), "refused image 0 too large\n"),
         (Refusal::ImageTooLarge(15), "refused image 15 too large\n"),
         (
@@ -53,6 +83,7 @@ fn lines_name_what_is_refused(rt: HostRuntime) {
         ),
     ];
     for (refusal, line) in rows {
-        assert_eq!(rt; refusal.line().as_str(), line);
+        assert_eq!(rt; refusal.line(rt.alloc())?.as_str(), line);
     }
+    Ok(())
 }

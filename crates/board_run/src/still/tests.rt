@@ -2,29 +2,10 @@
 //!
 //! The read and the write behind the last that is due are to fail, which shows that none is made.
 use super::board_still;
+use crate::samples::{HEAD, image, owned};
 use crate::{MemFiles, MemSink, Status};
-use std::alloc::{AllocError, Global};
+use std::alloc::Global;
 use std::test::Fail;
-
-/// The words of a preamble: 64 bytes of data, a start stack of 256, one instruction behind it.
-const HEAD: [u32; 16] = [
-    0x4D4F_4455,
-    6,
-    0,
-    32,
-    1,
-    3,
-    128,
-    128,
-    0,
-    10,
-    256,
-    0,
-    0,
-    0,
-    132,
-    64,
-];
 
 /// ADDI x5,x0,7.
 const ADDI_X5_X0_7: u32 = 0x0070_0293;
@@ -38,23 +19,6 @@ const OPENING: &str =
 
 const AFTER_ADDI: &str =
     "regs 00000000 800001e0 800000a0 00000000 00000007 00000000 00000000 00000000 00000000 80000080 00000000 00000000 00000000 00000000 00000000 00000000 00000000 00000000 00000000 00000000 00000000 00000000 00000000 00000000 00000000 00000000 00000000 00000000 00000000 00000000 00000000\n";
-
-/// An image of a preamble, sixteen words that are ignored, and code.
-fn image(alloc: Global, head: [u32; 16], code: &[u32]) -> Result<Vec<u8>, AllocError> {
-    let mut bytes = Vec::new(alloc);
-    for word in head.iter().chain(&[0; 16]).chain(code) {
-        bytes.extend_from_slice(&word.to_le_bytes())?;
-    }
-    Ok(bytes)
-}
-
-fn owned(alloc: Global, texts: &[&str]) -> Result<Vec<String>, AllocError> {
-    let mut words = Vec::new(alloc);
-    for text in texts {
-        words.push(String::from_str(alloc, text)?)?;
-    }
-    Ok(words)
-}
 
 /// A call over one file `p`: its status, and what was written.
 fn called(
@@ -164,7 +128,7 @@ fn refused_images_have_their_line(rt: HostRuntime) -> Result<(), Fail> {
 #[test]
 fn other_words_are_usage(rt: HostRuntime) -> Result<(), Fail> {
     let alloc = rt.alloc();
-    let lists: [&[&str]; 12] = [
+    let lists: [&[&str]; 14] = [
         &[],
         &["hart"],
         &["hart", "p"],
@@ -173,7 +137,9 @@ fn other_words_are_usage(rt: HostRuntime) -> Result<(), Fail> {
         &["hart", "p", "-1"],
         &["HART", "p", "1"],
         &["hart", "p", "1", "2"],
-        &["check", "p"],
+        &["check"],
+        &["check", "p", "q"],
+        &["replay", "p"],
         &["gen", "1"],
         &["--help"],
         &["--version"],

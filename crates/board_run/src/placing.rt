@@ -1,0 +1,28 @@
+//! Where modules lie in RAM that is all free.
+ghost use Rattle.std.specs.Prelude.{◌≡◌, ◌<◌, ◌≤◌, ◌^◌, length, IfOk};
+ghost use Rattle.board_run.specs.Placing.{places_in};
+ghost use Rattle.board_run.specs.Reading.{GivesHere};
+
+use crate::refusal::{Refusal, Stop};
+use module_loader::{PlaceErr, Placed, Range, Want, place};
+use region_guard::RAM_BASE;
+use std::alloc::Global;
+
+/// The places of modules in RAM of so many bytes, or which is the first that finds no room.
+#[tactic(auto, using(crate::proofs::Places::length_placement))]
+pub fn placed(alloc: Global, ram: u32, wants: &[Want]) -> Result<Vec<Placed>, Stop>
+    requires ram { ram < 2 ^ 31 }
+    requires few { length wants.now ≤ 256 }
+    ensures places { GivesHere (λ v. v.items) (places_in ram wants.now) result }
+    ensures count { IfOk result (λ v. length v.items ≡ length wants.now) }
+{
+    let free = [Range {
+        base: RAM_BASE,
+        size: ram,
+    }];
+    match place(alloc, &free, wants) {
+        Ok(places) => Ok(places),
+        Err(PlaceErr::NoMemory) => Err(Stop::NoMemory),
+        Err(PlaceErr::NoRoom(number)) => Err(Stop::Refused(Refusal::Room(number))),
+    }
+}
