@@ -28,6 +28,8 @@ expect() {
 }
 
 skipped() { printf 'skipped: %s\n' "$1"; }
+# from FOLDER COMMAND..: the command, called in the folder
+from() { (cd "$1" && shift && "$@"); }
 
 # the program is built on first use; without words it prints its usage
 "$top/txboard" >"$work/usage" </dev/null
@@ -274,6 +276,128 @@ else
     skipped 'a pipe with two short reads: there is no /dev/stdin'
 fi
 
+# ---- Boards
+
+one_text='module 0 one code 80000000 132 data 800000a0 320
+ok'
+expect 'the example board' 0 "$one_text" from "$top" "$txboard" check examples/one.board.toml
+expect 'its image is found from the caller' 2 '' from "$top/examples" "$txboard" check one.board.toml
+
+# board NAME STATUS TEXT: the board on standard input, in a folder with the images below
+boards=$work/boards
+mkdir "$boards" && cp "$p1" "$boards/p1.img" && cp "$p1" "$boards/a name.img"
+{ preamble code_size=e0 data_size=80; head -c 96 /dev/zero; } >"$boards/sensor.img"
+{ preamble code_size=d8; head -c 88 /dev/zero; } >"$boards/control.img"
+{ preamble code_size=9c; head -c 28 /dev/zero; } >"$boards/telemetry.img"
+{ preamble code_size=e0 data_size=600; head -c 96 /dev/zero; } >"$boards/data.img"
+image major=7 >"$boards/major.img"
+head -c 100 "$p1" >"$boards/short.img"
+head -c $((0x100001)) /dev/zero >"$boards/large.img"
+board() {
+    cat >"$boards/board.toml"
+    expect "board: $1" "$2" "$3" from "$boards" "$txboard" check board.toml
+}
+# modules RAM IMAGE..: the text of a board with a module for each image
+modules() {
+    local number=0
+    printf 'ram = %s\nsteps = 0\n' "$1"
+    shift
+    for image in "$@"; do
+        printf '[[module]]\nname = "m%s"\nimage = "%s"\n' "$number" "$image"
+        number=$((number + 1))
+    done
+}
+
+board 'three modules' 0 'module 0 sensor code 80000000 224 data 800000e0 384
+module 1 control code 80000260 216 data 80000340 320
+module 2 telemetry code 80000480 156 data 80000520 320
+ok' <<'BOARD'
+ram = 1048576
+steps = 20000
+
+[[module]]
+name = "sensor"
+image = "sensor.img"
+start = true
+
+[[module]]
+name = "control"
+image = "control.img"
+start = true
+
+[[module]]
+name = "telemetry"
+image = "telemetry.img"
+start = true
+
+[[show]]
+module = "control"
+offset = 8
+words = 1
+BOARD
+
+while IFS='|' read -r name status text ram images; do
+    board "$name" "$status" "$text" < <(modules "$ram" $images)
+done <<'ROWS'
+no image of the name|2||4096|p1.img none.img
+an image in no folder|2||4096|none/p1.img
+a folder for an image|2||4096|.
+a broken image|3|refused image 1: BadMajor 00000007|4096|p1.img major.img
+a short image|3|refused image 0: Short 100|4096|short.img
+an empty image|3|refused image 0: Short 0|4096|/dev/null
+a large image|3|refused image 1 too large|4096|p1.img large.img
+an image without end|3|refused image 0 too large|4096|/dev/zero
+the first of two broken images|3|refused image 0: BadMajor 00000007|4096|major.img short.img
+all images are read before one is tested: a large one|3|refused image 1 too large|4096|major.img large.img
+all images are read before one is tested: none there|2||4096|major.img none.img
+the first of two that cannot be read: a large one|3|refused image 0 too large|4096|large.img none.img
+the first of two that cannot be read: none there|2||4096|none.img large.img
+no room for the third|3|refused room 2|4096|data.img data.img data.img
+no room, but a broken image comes first|3|refused image 3: BadMajor 00000007|4096|data.img data.img data.img major.img
+the board comes before its images|3|refused board: ram|100|none.img
+no module|3|refused board: module|4096|
+ROWS
+
+board 'two that just fit' 0 'module 0 m0 code 80000000 224 data 800000e0 1792
+module 1 m1 code 800007e0 224 data 800008c0 1792
+ok' < <(modules 4096 data.img data.img)
+board 'seventeen modules' 3 'refused board: module' < <(modules 16777216 $(printf 'p1.img %.0s' {1..17}))
+board 'a name with a blank' 0 "$one_text" <<'BOARD'
+ram = 4096
+steps = 0
+[[module]]
+name = "one"
+image = "a name.img"
+BOARD
+
+while IFS='|' read -r name line text; do
+    board "$name" 3 "refused board: $line" < <(printf 'ram = 4096\nsteps = 0\n'; printf "$text")
+done <<'ROWS'
+a key twice|not toml|ram = 4096
+no value|not toml|module
+bytes that are no text|not toml|# \xff
+a wrong field of a module|module[0].image|[[module]]\nname = "one"\n
+a name of another shape|module[0].name|[[module]]\nname = "o n e"\nimage = "p1.img"\n
+an unknown key|module[0].size|[[module]]\nname = "one"\nimage = "p1.img"\nsize = 1\n
+a key of controls and blanks|module[0].a.b..c|[[module]]\nname = "one"\nimage = "p1.img"\n"a b\\u001B\\u0007c" = 1\n
+a key that is no ASCII|module[0]...|[[module]]\nname = "one"\nimage = "p1.img"\n"é" = 1\n
+a share|share|share = []\n[[module]]\nname = "one"\nimage = "p1.img"\n
+an action that is not built|device[0].action|[[module]]\nname = "one"\nimage = "p1.img"\n[[device]]\nname = "tick"\naction = "tick"\nscript = []\n
+ROWS
+
+board 'a key of 60,000 bytes' 3 "refused board: module[0].${long:0:60000}" \
+    < <(modules 4096 p1.img; printf '%s = 1\n' "${long:0:60000}")
+board 'brackets without end' 3 'refused board: not toml' < <(printf 'ram = '; head -c 60000 /dev/zero | tr '\0' '[')
+board 'a board of 65,536 bytes' 0 'module 0 m0 code 80000000 132 data 800000a0 320
+ok' < <({ modules 4096 p1.img; printf '#%s\n' "$long"; } | head -c 65536)
+board 'one byte more' 3 'refused board too large' \
+    < <({ modules 4096 p1.img; printf '#%s\n' "$long"; } | head -c 65537)
+board 'an empty board' 3 'refused board: ram' </dev/null
+expect 'a board without end' 3 'refused board too large' "$txboard" check /dev/zero
+expect 'no such board' 2 '' "$txboard" check "$work/none.toml"
+expect 'a folder for a board' 2 '' "$txboard" check "$work"
+expect 'an image for a board' 3 'refused board: not toml' "$txboard" check "$p1"
+
 # ---- Outputs that can't be written
 
 to_full() { "$txboard" "$@" >/dev/full; }
@@ -304,6 +428,8 @@ else
     skipped 'a full device: there is no /dev/full'
 fi
 expect 'a closed output: the text' 4 '' to_none hart "$p1" 1
+expect 'a closed output: the text of a board' 4 '' from "$top" to_none check examples/one.board.toml
+expect 'a closed output: the refusal of a board' 4 '' to_none check /dev/null
 expect 'a closed output: the usage line' 4 '' to_none
 expect 'a closed output: a refusal' 4 '' to_none hart /dev/null 1
 expect 'a closed output, and nothing to write' 2 '' to_none hart "$work/none.img" 1
@@ -311,6 +437,97 @@ expect 'a reader that has gone: the text' 4 '' to_gone hart "$p1" 1
 expect 'a reader that has gone: the usage line' 4 '' to_gone
 expect 'a reader of one line' 0 'hart steps 1 end count' first_line hart "$p1" 1
 expect 'no standard input and no standard error' 0 "$p1_text" with_output_alone hart "$p1" 1
+
+# ---- Logs
+
+three_steps='S 3
+report
+events steps 3 irqs 0 ticks 0 clock 0
+running -
+held
+ready
+waits begun 0 satisfied 0 timedout 0 aborted 0 deleted 0 gone 0
+module 0 one state 3 queued 0 dropped 0
+fault 0 thread 0 cause 1 pc 80000084
+end'
+# booted STEPS: the report of the example board as it was booted
+booted() {
+    printf 'report\nevents steps %s irqs 0 ticks 0 clock 0\nrunning 0\nheld\nready 0\n' "$1"
+    printf 'waits begun 0 satisfied 0 timedout 0 aborted 0 deleted 0 gone 0\nmodule 0 one state 1 queued 0 dropped 0\n'
+    printf 'thread 0 module 0 start state 0 priority 10 10 threshold 10 10 slice 0 0 pc 80000080\n'
+    hart_text 0 count 80000080 00000000 | tail -n 1
+    printf '\nend'
+}
+# log NAME STATUS TEXT: the log on standard input, on the example board
+log() {
+    cat >"$work/log"
+    expect "log: $1" "$2" "$3" from "$top" "$txboard" replay examples/one.board.toml "$work/log"
+}
+log 'three steps' 0 "$three_steps" <<<'S 3'
+log 'steps side by side' 3 'refused log: line 2' <<<$'S 1\nS 2'
+log 'a device that the board has not' 3 'refused log: line 1' <<<'I 0 00000000'
+log 'the empty log' 0 "$(booted 0)" </dev/null
+log 'a last line without its end' 3 'refused log: line 2' < <(printf 'S 1\nS 2')
+log 'an empty line' 3 'refused log: line 1' <<<''
+log 'a leading zero' 3 'refused log: line 1' <<<'S 01'
+log 'no step' 3 'refused log: line 1' <<<'S 0'
+log 'a return before the end' 3 'refused log: line 1' < <(printf 'S 1\r\n')
+log 'a blank behind' 3 'refused log: line 1' <<<'S 1 '
+log 'one step too many' 3 'refused log: line 1' <<<'S 100000001'
+log 'a number of 100,000 digits' 3 'refused log: line 1' <<<"S ${long//a/1}"
+log 'a header' 3 'refused log: line 1' <<<'V 2 1 0'
+log 'bytes that are no text' 3 'refused log: line 1' < <(head -c 100 "$p1")
+log '4,194,304 bytes' 3 'refused log: line 1' < <(head -c 4194304 /dev/zero)
+log 'one byte more' 3 'refused log too large' < <(head -c 4194305 /dev/zero)
+expect 'no such log' 2 '' from "$top" "$txboard" replay examples/one.board.toml "$work/none.log"
+expect 'a folder for a log' 2 '' from "$top" "$txboard" replay examples/one.board.toml "$work"
+expect 'a log without end' 3 'refused log too large' from "$top" "$txboard" replay examples/one.board.toml /dev/zero
+
+# two modules: after 43 steps the radio has counted to 3 and stores beyond its data; in the other 57 the meter alone
+# counts from 4 to 13 and has begun to count once more
+two_modules='S 20
+I 0 00000001
+S 80
+report
+events steps 100 irqs 1 ticks 0 clock 0
+running 0
+held
+ready 0
+waits begun 0 satisfied 0 timedout 0 aborted 0 deleted 0 gone 0
+module 0 meter state 1 queued 0 dropped 0
+module 1 radio state 3 queued 0 dropped 0
+fault 1 thread 1 cause 7 pc 8000027c
+thread 0 module 0 start state 0 priority 10 10 threshold 10 10 slice 0 0 pc 80000088
+'"regs 00000000 800001e0 800000a0 00000000 00000000 0000000e 00000000 00000000 00000000 $zeros4 00000000 00000000 00000000 00000016 \
+$zeros4 $zeros4 $zeros4 00000000 00000000"'
+device 0 wake taken 1 last 12
+show 0 0000000d
+show 1 00000003
+end'
+expect 'two modules' 0 "$two_modules" from "$top" "$txboard" replay examples/two.board.toml examples/two.log
+from "$top" "$txboard" replay examples/two.board.toml examples/two.log | sed '/^report$/,$d' >"$work/log"
+expect 'the log that came back, once more' 0 "$two_modules" from "$top" "$txboard" replay examples/two.board.toml "$work/log"
+
+# the board and its images are refused before the log is read, and the log before the boot
+replay() { expect "replay: $1" "$2" "$3" from "$boards" "$txboard" replay board.toml "$work/log"; }
+printf 'S 1\nS 2\n' >"$work/log"
+modules 100 p1.img >"$boards/board.toml"
+replay 'the board comes first' 3 'refused board: ram'
+modules 4096 none.img >"$boards/board.toml"
+replay 'then the images' 2 ''
+modules 4096 major.img >"$boards/board.toml"
+replay 'then the log' 3 'refused log: line 2'
+printf 'S 1\n' >"$work/log"
+replay 'then the preambles' 3 'refused image 0: BadMajor 00000007'
+modules 4096 data.img data.img data.img >"$boards/board.toml"
+replay 'then room' 3 'refused room 2'
+
+if [ -w /dev/full ]; then
+    expect 'a full device: a session' 4 '' from "$top" to_full replay examples/two.board.toml examples/two.log
+fi
+expect 'a closed output: a session' 4 '' from "$top" to_none replay examples/two.board.toml examples/two.log
+expect 'a reader that has gone: a session' 4 '' from "$top" to_gone replay examples/two.board.toml examples/two.log
+expect 'a reader of one line of a session' 0 'S 20' from "$top" first_line replay examples/two.board.toml examples/two.log
 
 # ---- Words
 
@@ -326,8 +543,11 @@ is_usage hart "$p1"
 is_usage hart "$p1" 1 1
 is_usage hart "$work/none.img" x
 is_usage ' hart' "$p1" 1
-is_usage check board.toml
-is_usage replay board.toml log
+is_usage check
+is_usage check "$top/examples/one.board.toml" 1
+is_usage Check "$top/examples/one.board.toml"
+is_usage replay board.toml
+is_usage replay board.toml log log
 is_usage run board.toml
 is_usage gen 1
 for number in '' ' 1' '1 ' 01 00 +1 -1 -0 1x 0x1 1.0 1e3 100000001 4294967297 18446744073709551617 $'1\n' '１'; do
@@ -335,12 +555,12 @@ for number in '' ' 1' '1 ' 01 00 +1 -1 -0 1x 0x1 1.0 1e3 100000001 4294967297 18
 done
 expect 'words: a number of 100,000 digits' 1 "$usage" "$txboard" hart "$p1" "${long//a/1}"
 expect 'words: no text as a name' 1 "$usage" "$txboard" hart $'\xff' 1
+expect 'words: no text as a board' 1 "$usage" "$txboard" check $'\xff'
 expect 'words: no text behind the others' 1 "$usage" "$txboard" hart "$p1" 1 $'p1\xc3\x28'
 
 # ---- The wrapper: relative names are those of the caller, and words stay whole
 
 mkdir "$work/a folder" && cp "$p1" "$work/a folder/an image.img"
-from() { (cd "$1" && shift && "$@"); }
 expect 'a relative name' 0 "$p1_text" from "$top/examples" "$txboard" hart p1.img 1
 expect 'wrapper: a relative name' 0 "$p1_text" from "$work/a folder" "$top/txboard" hart '../a folder/an image.img' 1
 expect 'wrapper: called by a relative name' 0 "$p1_text" from "$top/tests" ../txboard hart ../examples/p1.img 1
@@ -353,7 +573,7 @@ expect 'wrapper: no words' 1 "$usage" "$top/txboard"
 
 expect 'the stored run has the image of examples/' 0 '' cmp "$top/crates/txboard/data/p1.img" "$p1"
 if command -v python3 >"$work/out"; then
-    mkdir "$work/examples" && cp "$top/examples/images.py" "$work/examples"
+    mkdir "$work/examples" && cp "$top/examples/"{images.py,*.toml,*.log} "$work/examples"
     expect 'examples/images.py' 0 '' python3 "$work/examples/images.py"
     expect 'it writes the images of examples/' 0 '' diff -r "$top/examples" "$work/examples"
 else
