@@ -1,11 +1,12 @@
 -- Entries at the end of a history.
-use Rattle.std.proofs.Common.{◌≡◌, ℕ, ◌+◌, ◌-◌, ◌*◌, ◌^◌, ◌<◌, ◌≤◌, Bool, true, false, ◌||◌, ◌&&◌, not, cond, nat_le, List, [], ◌∷◌, ◌++◌, length, Option, None, Some, slice_get, take, refl, sym, ap, ◌∙◌, subst, arith, append_assoc, length-append, append-nil}
+use Rattle.std.proofs.Common.{◌≡◌, ℕ, zero, suc, ◌+◌, ◌-◌, ◌*◌, ◌^◌, ◌<◌, ◌≤◌, Bool, true, false, ◌||◌, ◌&&◌, not, cond, nat_le, List, [], ◌∷◌, ◌++◌, length, Option, None, Some, slice_get, take, refl, sym, ap, ◌∙◌, subst, arith, append_assoc, length-append, append-nil}
 use native.Mathlib.Numerals.{unary_clauses}
 use Rattle.std.proofs.lemmas.Bool.Decides.{nat_tests}
 use Rattle.std.proofs.lemmas.List.Elements.{All-push, All-pop, All-weaker}
 use Rattle.std.proofs.lemmas.List.{take_at}
 use Rattle.std.proofs.lemmas.List.Sums.{sum_by_push, sum_by-cons}
-use Rattle.event_log.specs.Log.{IsEntry, IsHistory, IsSound, steps_in, is_irq, step_count, irq_count, parted, stepped, with_step, last_steps}
+use Rattle.event_log.specs.Log.{IsEntry, IsHistory, IsSound, steps_in, is_irq, step_count, irq_count, parted, stepped, with_step, with_steps, last_steps}
+use Rattle.event_log.proofs.EventLists.{step_count-with_step, irq_count-with_steps}
 use Rattle.event_log.specs.declared.entry.Entry.{Entry}
 use Rattle.event_log.specs.declared.entry.Entry.TheVariants.{Steps, Irq}
 
@@ -25,6 +26,24 @@ pub with_step-append : (es : List Entry) (e : Entry) → with_step (es ++ e ∷ 
 with_step-append [] e = refl
 with_step-append (a ∷ []) e = refl
 with_step-append (a ∷ b ∷ es) e = ap (λ xs. a ∷ xs) (with_step-append (b ∷ es) e)
+
+-- behind an interrupt it opens one
+with_step-irq : (es : List Entry) (d w : ℕ) → with_step (es ++ Irq d w ∷ []) ≡ (es ++ Irq d w ∷ []) ++ Steps 1 ∷ []
+with_step-irq es d w = with_step-append es (Irq d w) ∙ sym (append_assoc es (Irq d w ∷ []) (Steps 1 ∷ []))
+
+-- n steps raise a last entry of steps by n
+with_steps-raised : (n k : ℕ) (es : List Entry) → with_steps n (es ++ Steps k ∷ []) ≡ es ++ Steps (k + n) ∷ []
+with_steps-raised zero k es = let sum : k + 0 ≡ k = omega arith in rw sum
+with_steps-raised (suc n) k es =
+    let sum : k + 1 + n ≡ k + suc n = omega arith in
+    rw with_step-append (with_steps-raised n (k + 1) es ∙ ap (λ i. es ++ Steps i ∷ []) sum)
+
+-- where a step opens an entry, n steps open one of n
+with_steps-opened : (n : ℕ) (es : List Entry) → 0 < n → with_step es ≡ es ++ Steps 1 ∷ [] → with_steps n es ≡ es ++ Steps n ∷ []
+with_steps-opened zero es some one = absurd (omega arith)
+with_steps-opened (suc n) es some one =
+    let sum : 1 + n ≡ suc n = omega arith in
+    rw one (with_steps-raised n 1 es ∙ ap (λ i. es ++ Steps i ∷ []) sum)
 
 pub ends-append : (es : List Entry) (e : Entry) → ends_in_steps (es ++ e ∷ []) ≡ not (is_irq e)
 ends-append [] e = refl
@@ -153,47 +172,38 @@ history-irq es d w h small word less =
     let irqs : irq_count (es ++ Irq d w ∷ []) ≤ 65536 = omega (arith, irq_count-append es (Irq d w)) in
     history-append 16 es (Irq d w) h (small, word) (grind (arith, nat_tests))
 
--- what one step more keeps
-record Steps-one (es : List Entry) : Type 0 where
-  pub history : IsHistory 16 (with_step es)
-  pub steps : step_count (with_step es) ≡ step_count es + 1
-  pub irqs : irq_count (with_step es) ≡ irq_count es
-
 -- a list is empty or has a last entry
 by-last : (P : List Entry → Type 0) → P [] → ((front : List Entry) (e : Entry) → P (front ++ e ∷ [])) → (es : List Entry) → P es
 by-last P none some [] = none
 by-last P none some (a ∷ es) = by-last (λ xs. P (a ∷ xs)) (some [] a) (λ front e. some (a ∷ front) e) es
 
-one-step-last : (front : List Entry) (e : Entry) → IsHistory 16 (front ++ e ∷ [])
-    → step_count (front ++ e ∷ []) < 100000000 → Steps-one (front ++ e ∷ [])
-one-step-last front (Steps n) h less = record {
-  history = rw with_step-append (history-raised front n h less);
-  steps = rw with_step-append (omega (arith, step_count-append front (Steps n), step_count-append front (Steps (n + 1))));
-  irqs = rw with_step-append (omega (arith, irq_count-append front (Steps n), irq_count-append front (Steps (n + 1))));
+step-last : (front : List Entry) (e : Entry) → IsHistory 16 (front ++ e ∷ [])
+    → step_count (front ++ e ∷ []) < 100000000 → IsHistory 16 (with_step (front ++ e ∷ []))
+step-last front (Steps n) h less = rw with_step-append (history-raised front n h less)
+step-last front (Irq d w) h less =
+    rw with_step-irq (history-opened (front ++ Irq d w ∷ []) h (ends-append front (Irq d w)) less)
+
+-- a history with one step more is one, and so with n steps more
+history-step : (es : List Entry) → IsHistory 16 es → step_count es < 100000000 → IsHistory 16 (with_step es)
+history-step es =
+    by-last (λ xs. IsHistory 16 xs → step_count xs < 100000000 → IsHistory 16 (with_step xs))
+    (λ h less. history-opened [] h refl less)
+    step-last es
+
+history-steps : (n : ℕ) (es : List Entry) → IsHistory 16 es → step_count es + n ≤ 100000000 → IsHistory 16 (with_steps n es)
+history-steps zero es h few = h
+history-steps (suc n) es h few =
+    let few-after : step_count (with_step es) + n ≤ 100000000 = omega (arith, step_count-with_step es) in
+    history-steps n (with_step es) (history-step es h (omega arith)) few-after
+
+-- a sound history with n steps or one interrupt more is sound
+pub sound_steps : (n : ℕ) (es : List Entry) (irqs : ℕ) → IsSound (record { entries = es; irqs = irqs })
+    → step_count es + n ≤ 100000000 → IsSound (record { entries = with_steps n es; irqs = irqs })
+sound_steps n es irqs h few = record {
+  history = history-steps n es h.history few;
+  room = omega (arith, irq_count-with_steps n es, h.room);
+  at_most = h.at_most;
 }
-one-step-last front (Irq d w) h less =
-    let es = front ++ Irq d w ∷ [] in
-    let same : with_step es ≡ es ++ Steps 1 ∷ []
-    = with_step-append front (Irq d w) ∙ sym (append_assoc front (Irq d w ∷ []) (Steps 1 ∷ [])) in
-    record {
-      history = rw same (history-opened es h (ends-append front (Irq d w)) less);
-      steps = rw same (step_count-append es (Steps 1));
-      irqs = rw same (omega (arith, irq_count-append es (Steps 1)));
-    }
-
-one-step : (es : List Entry) → IsHistory 16 es → step_count es < 100000000 → Steps-one es
-one-step es =
-    by-last (λ xs. IsHistory 16 xs → step_count xs < 100000000 → Steps-one xs)
-    (λ h less. record { history = history-opened [] h refl less; steps = refl; irqs = refl })
-    one-step-last es
-
--- a sound history with one step or one interrupt more is sound
-pub sound_step : (es : List Entry) (irqs : ℕ) → IsSound (record { entries = es; irqs = irqs }) → step_count es < 100000000
-    → IsSound (record { entries = with_step es; irqs = irqs }) × (step_count (with_step es) ≡ step_count es + 1)
-    × (irq_count (with_step es) ≡ irq_count es)
-sound_step es irqs h less =
-    let one = one-step es h.history less in
-    (record { history = one.history; room = omega (arith, one.irqs, h.room); at_most = h.at_most }, one.steps, one.irqs)
 
 pub sound_irq : (es : List Entry) (d w irqs : ℕ) → IsSound (record { entries = es; irqs = irqs }) → d < 16 → w < 2 ^ 32
     → irq_count es < irqs → IsSound (record { entries = es ++ Irq d w ∷ []; irqs = irqs })
@@ -222,10 +232,10 @@ last_steps-append [] e = refl
 last_steps-append (a ∷ []) e = refl
 last_steps-append (a ∷ b ∷ es) e = last_steps-append (b ∷ es) e
 
--- one step more, by what the last entry is
-pub record Step-by-last (es : List Entry) : Type 0 where
-  pub raised : 0 < last_steps es → with_step es ≡ take (length es - 1) es ++ Steps (last_steps es + 1) ∷ []
-  pub opened : last_steps es ≡ 0 → with_step es ≡ es ++ Steps 1 ∷ []
+-- n steps more, by what the last entry is
+pub record Steps-by-last (n : ℕ) (es : List Entry) : Type 0 where
+  pub raised : 0 < last_steps es → with_steps n es ≡ take (length es - 1) es ++ Steps (last_steps es + n) ∷ []
+  pub opened : last_steps es ≡ 0 → with_steps n es ≡ es ++ Steps n ∷ []
   pub least : last_steps es ≤ step_count es
 
 take-front : (front : List Entry) (e : Entry) → take (length (front ++ e ∷ []) - 1) (front ++ e ∷ []) ≡ front
@@ -233,27 +243,27 @@ take-front front e =
     let n : length (front ++ e ∷ []) - 1 ≡ length front = simp length-append (omega arith) in
     take_at front (e ∷ []) (length (front ++ e ∷ []) - 1) (sym n)
 
-by-last-entry : (front : List Entry) (e : Entry) → IsEntry 16 e → Step-by-last (front ++ e ∷ [])
-by-last-entry front (Steps n) one =
-    let last = last_steps-append front (Steps n) in
+by-last-entry : (n : ℕ) (front : List Entry) (e : Entry) → 0 < n → IsEntry 16 e → Steps-by-last n (front ++ e ∷ [])
+by-last-entry n front (Steps k) some one =
+    let last = last_steps-append front (Steps k) in
     record {
-      raised = λ h. rw (last, take-front) (with_step-append front (Steps n));
+      raised = λ h. rw (last, take-front) (with_steps-raised n k front);
       opened = λ h. absurd (omega (arith, last, h, one));
-      least = omega (arith, last, step_count-append front (Steps n));
+      least = omega (arith, last, step_count-append front (Steps k));
     }
-by-last-entry front (Irq d w) one =
+by-last-entry n front (Irq d w) some one =
     let last = last_steps-append front (Irq d w) in
     record {
       raised = λ h. absurd (omega (arith, last, h));
-      opened = λ h. with_step-append front (Irq d w) ∙ sym (append_assoc front (Irq d w ∷ []) (Steps 1 ∷ []));
+      opened = λ h. with_steps-opened n (front ++ Irq d w ∷ []) some (with_step-irq front d w);
       least = omega (arith, last);
     }
 
-pub step-by-last : (es : List Entry) → IsHistory 16 es → Step-by-last es
-step-by-last es =
-    by-last (λ xs. IsHistory 16 xs → Step-by-last xs)
-    (λ h. record { raised = λ more. absurd (omega arith); opened = λ none. refl; least = omega arith })
-    (λ front e h. by-last-entry front e (last-entry 16 front e h)) es
+pub steps-by-last : (n : ℕ) (es : List Entry) → 0 < n → IsHistory 16 es → Steps-by-last n es
+steps-by-last n es some =
+    by-last (λ xs. IsHistory 16 xs → Steps-by-last n xs)
+    (λ h. record { raised = λ more. absurd (omega arith); opened = λ none. with_steps-opened n [] some refl; least = omega arith })
+    (λ front e h. by-last-entry n front e some (last-entry 16 front e h)) es
 
 ends-none : (es : List Entry) → ends_in_steps es ≡ false → last_steps es ≡ 0
 ends-none [] h = refl

@@ -1,5 +1,5 @@
 -- A history: the steps and interrupts of a run, in order.
-use Rattle.std.specs.Prelude.{◌≡◌, ℕ, ◌+◌, ◌^◌, ◌<◌, ◌≤◌, ◌||◌, ◌&&◌, Bool, true, false, List, [], ◌∷◌, ◌++◌, All, count_by}
+use Rattle.std.specs.Prelude.{◌≡◌, ℕ, zero, suc, ◌+◌, ◌^◌, ◌<◌, ◌≤◌, ◌||◌, ◌&&◌, Bool, true, false, List, [], ◌∷◌, ◌++◌, All, count_by}
 use Rattle.std.specs.List.{sum_by}
 use Rattle.event_log.specs.declared.entry.Entry.{Entry}
 use Rattle.event_log.specs.declared.entry.Entry.TheVariants.{Steps, Irq}
@@ -61,6 +61,11 @@ abbrev pub with_step : List Entry → List Entry
 with_step [] = Steps 1 ∷ []
 with_step (e ∷ []) = stepped e
 with_step (e ∷ f ∷ es) = e ∷ with_step (f ∷ es)
+
+-- so many steps more, one by one
+abbrev pub with_steps : ℕ → List Entry → List Entry
+with_steps zero es = es
+with_steps (suc n) es = with_steps n (with_step es)
 
 -- an interrupt goes last
 abbrev pub with_irq : ℕ → ℕ → List Entry → List Entry

@@ -3,7 +3,7 @@
 //! All its memory is taken by `reserve`; steps that follow one another are one entry, so there are at
 //! most twice as many entries as interrupts, and one more.
 ghost use Rattle.std.specs.Prelude.{◌≡◌, ◌+◌, ◌<◌, ◌≤◌, ◌↔◌, ◌∷◌, ◌++◌, [], IsTrue, length, slice_index_or, vec_capacity, IfOk};
-ghost use Rattle.event_log.specs.Log.{Log, IsEntry, IsHistory, IsSound, step_count, irq_count, last_steps, with_step, with_irq};
+ghost use Rattle.event_log.specs.Log.{Log, IsEntry, IsHistory, IsSound, step_count, irq_count, last_steps, with_step, with_steps, with_irq};
 
 use crate::entry::Entry;
 use crate::{MOST_IRQS, MOST_STEPS};
@@ -56,8 +56,19 @@ impl History {
         ensures entries { self.new.entries ≡ with_step self.old.entries }
         ensures room { self.new.irqs ≡ self.old.irqs }
     {
-        put_step(&mut self.entries);
-        self.steps += 1;
+        self.add_steps(1);
+    }
+
+    /// So many steps more.
+    pub fn add_steps(&mut self, n: u32)
+        requires { step_count self.old.entries + n ≤ 100000000 }
+        ensures entries { self.new.entries ≡ with_steps n self.old.entries }
+        ensures room { self.new.irqs ≡ self.old.irqs }
+    {
+        if n > 0 {
+            put_steps(&mut self.entries, n);
+            self.steps += n;
+        }
     }
 
     /// One interrupt more, of device d with word w.
@@ -141,19 +152,20 @@ impl History {
     }
 }
 
-/// Raises a last entry of steps by one, or opens one.
-fn put_step(entries: &mut Vec<Entry>)
+/// Raises a last entry of steps by at least one, or opens one.
+fn put_steps(entries: &mut Vec<Entry>, n: u32)
+    requires some { 0 < n }
     requires history { IsHistory 16 entries.old.items }
-    requires steps { step_count entries.old.items < 100000000 }
-    requires room { length (with_step entries.old.items) ≤ vec_capacity entries.old }
-    ensures items { entries.new.items ≡ with_step entries.old.items }
+    requires steps { step_count entries.old.items + n ≤ 100000000 }
+    requires room { length (with_steps n entries.old.items) ≤ vec_capacity entries.old }
+    ensures items { entries.new.items ≡ with_steps n entries.old.items }
     ensures capacity { vec_capacity entries.new ≡ vec_capacity entries.old }
 {
     let steps = last_steps(entries);
     if steps > 0 {
         entries.pop();
     }
-    entries.push_reserved(Entry::Steps(steps + 1));
+    entries.push_reserved(Entry::Steps(steps + n));
 }
 
 /// How many steps the last entry is; 0 where it is none of steps.

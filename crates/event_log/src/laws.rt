@@ -1,7 +1,7 @@
 //! What holds of every log: each function's contract is a law.
-ghost use Rattle.std.specs.Prelude.{◌≡◌, ℕ, ◌+◌, List, [], ◌∷◌, ◌++◌};
+ghost use Rattle.std.specs.Prelude.{◌≡◌, ℕ, ◌+◌, List, [], ◌∷◌, ◌++◌, replicate};
 ghost use Rattle.event_log.specs.Events.{Step, Irq, events_of, words_in, words_of};
-ghost use Rattle.event_log.specs.Log.{step_count, irq_count, with_step, with_irq};
+ghost use Rattle.event_log.specs.Log.{step_count, irq_count, with_step, with_steps, with_irq};
 ghost use Rattle.event_log.specs.Reading.{TextsApart, NoBadLine, OneBadLine, ReadsBack, SaysTrue};
 ghost use Rattle.event_log.specs.declared.entry.Entry.{Entry};
 ghost use Rattle.event_log.specs.declared.entry.Entry.TheVariants as entry;
@@ -29,6 +29,19 @@ pub fn a_history_grows_by_one_event()
         step_count (with_irq d w es) ≡ step_count es }
     ensures irqs_by_irq { (d w : ℕ) (es : List Entry) →
         irq_count (with_irq d w es) ≡ irq_count es + 1 }
+{}
+
+/// A history with n steps more is the same events and n steps behind them, counts n steps more, and
+/// has the same interrupts and words. It is all the same in how many parts the steps are added.
+pub fn a_history_grows_by_steps()
+    ensures events { (n : ℕ) (es : List Entry) →
+        events_of (with_steps n es) ≡ events_of es ++ replicate n Step }
+    ensures steps { (n : ℕ) (es : List Entry) → step_count (with_steps n es) ≡ step_count es + n }
+    ensures irqs { (n : ℕ) (es : List Entry) → irq_count (with_steps n es) ≡ irq_count es }
+    ensures words { (n device : ℕ) (es : List Entry) →
+        words_of device (with_steps n es) ≡ words_of device es }
+    ensures parts { (m n : ℕ) (es : List Entry) →
+        with_steps (m + n) es ≡ with_steps n (with_steps m es) }
 {}
 
 /// A step leaves the words of each device as they are, and an interrupt puts its word last of its

@@ -45,6 +45,19 @@ pub trait Replayer {
         ensures steps_left { steps_left self.new + 1 ≡ steps_left self.old }
         ensures irqs_left { irqs_left self.new ≡ irqs_left self.old };
 
+    /// Makes n steps. It takes no memory.
+    fn steps(&mut self, n: u32)
+        requires { n ≤ steps_left self.old }
+        ensures world { world self.new ≡ fold next (world self.old) (replicate n Step) }
+        ensures devices { devices self.new ≡ devices self.old }
+        ensures steps_left { steps_left self.new + n ≡ steps_left self.old }
+        ensures irqs_left { irqs_left self.new ≡ irqs_left self.old }
+    {
+        for _ in 0..n {
+            self.step();
+        }
+    }
+
     /// Takes one interrupt of device d with word w. It takes no memory.
     fn take(&mut self, d: DevNo, w: u32)
         requires room { 0 < irqs_left self.old }
@@ -85,20 +98,7 @@ fn replay_entry<R: Replayer>(e: Entry, r: &mut R)
     ensures irqs_left { R.irqs_left r.new + (if is_irq e then 1 else 0) ≡ R.irqs_left r.old }
 {
     match e {
-        Entry::Steps(n) => replay_steps(n, r),
+        Entry::Steps(n) => r.steps(n),
         Entry::Irq(d, w) => r.take(d, w),
-    }
-}
-
-/// Makes n steps.
-fn replay_steps<R: Replayer>(n: u32, r: &mut R)
-    requires { n ≤ R.steps_left r.old }
-    ensures world { R.world r.new ≡ fold R.next (R.world r.old) (replicate n Step) }
-    ensures devices { R.devices r.new ≡ R.devices r.old }
-    ensures steps_left { R.steps_left r.new + n ≡ R.steps_left r.old }
-    ensures irqs_left { R.irqs_left r.new ≡ R.irqs_left r.old }
-{
-    for _ in 0..n {
-        r.step();
     }
 }

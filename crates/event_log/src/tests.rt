@@ -62,6 +62,32 @@ fn steps_in_a_row_are_one_entry(rt: HostRuntime) -> Result<(), Fail> {
 }
 
 #[test]
+fn steps_are_added_at_once(rt: HostRuntime) -> Result<(), Fail> {
+    let mut h = History::reserve(rt.alloc(), 1).map_err(|_| "no memory")?;
+    h.add_steps(0);
+    assert_eq!(rt; h.len(), 0);
+    h.add_steps(2);
+    h.add_steps(3);
+    h.add_step();
+    h.add_irq(DevNo::new(1), 5);
+    h.add_steps(0);
+    assert_eq!(rt; h.len(), 2);
+    h.add_steps(99_999_994);
+    let expected = [
+        Entry::Steps(6),
+        Entry::Irq(DevNo::new(1), 5),
+        Entry::Steps(99_999_994),
+    ];
+    assert_eq!(rt; h.len(), 3);
+    assert_eq!(rt; h.steps(), 100_000_000);
+    assert_eq!(rt; h.irqs(), 1);
+    for i in 0..h.len() {
+        assert_eq!(rt; Some(h.entry(i)), expected.get(i as usize).copied());
+    }
+    Ok(())
+}
+
+#[test]
 fn lines_at_the_limits_of_their_digits(rt: HostRuntime) -> Result<(), Fail> {
     for (e, text) in [
         (Entry::Steps(1), "S 1\n"),
