@@ -1,4 +1,5 @@
 pub mod Booted
+pub mod BurstSteps
 pub mod DataWords
 pub mod Effects
 pub mod Frames
@@ -18,4 +19,5 @@ pub mod Spared
 pub mod Standing
 pub mod Starting
 pub mod Steps
+pub mod Turns
 pub mod Writes

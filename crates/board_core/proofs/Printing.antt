@@ -1,5 +1,5 @@
 -- What the report on a world has of each kind fits a printed report.
-use Rattle.std.proofs.Common.{◌≡◌, ◌≢◌, ℕ, zero, suc, ◌<◌, ◌≤◌, ◌+◌, ◌*◌, ◌==◌, true, false, not, List, [], ◌∷◌, length, filter, All, AllPairs, Option, None, Some, IfSome, arith, ap, subst, refl}
+use Rattle.std.proofs.Common.{◌≡◌, ◌≢◌, ℕ, zero, suc, ◌<◌, ◌≤◌, ◌+◌, ◌*◌, ◌==◌, true, false, not, List, [], ◌∷◌, length, filter, All, AllPairs, None, Some, IfSome, arith, ap, subst, refl}
 use Rattle.std.proofs.lemmas.Bool.{cond_both, eqb-false, eqb-true, ne_eqb, not-true}
 use Rattle.std.proofs.lemmas.List.Elements.{All-filter, All-head, All-nil, filter_passes}
 use Rattle.std.proofs.lemmas.List.Kept.{AllPairs-filter}

@@ -1,5 +1,5 @@
 -- The thread that runs, and its step.
-use Rattle.std.proofs.Common.{◌≡◌, ℕ, ◌<◌, ◌≤◌, true, Some, sym, ap, ◌∙◌, ⊎_elim, arith}
+use Rattle.std.proofs.Common.{◌≡◌, ℕ, ◌<◌, ◌≤◌, true, None, Some, sym, ap, ◌∙◌, ⊎_elim, arith}
 use Rattle.std.proofs.lemmas.Bool.{cases_lt, false≢true}
 use Rattle.std.proofs.lemmas.List.{get_or-set_same, get_or_past}
 use Rattle.object_grants.specs.Slot.{free_slot}
@@ -10,7 +10,7 @@ use Rattle.kernel_state.specs.Laws.{RunningIsReady, ReadyIsThread}
 use Rattle.kernel_state.specs.Sound.{IsSound}
 use Rattle.kernel_state.specs.Thread.{blank_thread}
 use Rattle.kernel_state.specs.declared.kernel.Kernel.{Kernel}
-use Rattle.board_core.specs.Step.{after_effect, next_effect, stepped, stepped_by, with_hart}
+use Rattle.board_core.specs.Step.{after_effect, next_effect, parts, stepped, stepped_by, with_hart}
 use Rattle.board_core.specs.World.{World}
 
 -- a thread has a number below 256
@@ -34,3 +34,8 @@ pub stepped_is : (w : World) (t : ℕ) (e : Effect) → w.kernel.ready.run ≡ S
     → stepped w.kernel w.memory w.modules ≡ after_effect w.kernel w.memory w.modules t e
 unfolding stepped
 stepped_is w t e runs is = ap (stepped_by w.kernel w.memory w.modules) runs ∙ ap (after_effect w.kernel w.memory w.modules t) is
+
+-- where no thread runs nothing changes
+pub stepped_idle : (w : World) → w.kernel.ready.run ≡ None → stepped w.kernel w.memory w.modules ≡ parts w.kernel w.memory w.modules
+unfolding stepped
+stepped_idle w idle = ap (stepped_by w.kernel w.memory w.modules) idle

@@ -1,11 +1,11 @@
 -- A machine on which an event is made stands for the run of its history with that event more.
-use Rattle.std.proofs.Common.{◌≡◌, ℕ, ◌+◌, ◌<◌, ◌≤◌, List, [], ◌∷◌, ◌++◌, length, All, Option, None, Some, refl, sym, ap, ◌∙◌, fold, arith}
+use Rattle.std.proofs.Common.{◌≡◌, ℕ, ◌+◌, ◌<◌, ◌≤◌, List, [], ◌∷◌, ◌++◌, length, All, refl, sym, ap, ◌∙◌, fold, arith}
 use Rattle.std.proofs.lemmas.List.{length-set}
 use Rattle.std.proofs.lemmas.List.Elements.{All-get_or, All-set, All-weaker}
 use Rattle.std.proofs.lemmas.List.Sums.{fold-append}
 use Rattle.board_file.specs.declared.board.Board.{Board}
 use Rattle.board_file.specs.Rules.{IsBoard}
-use Rattle.event_log.specs.Events.{Event, Step, Irq, events_of}
+use Rattle.event_log.specs.Events.{Event, Irq, events_of}
 use Rattle.event_log.specs.Log.{irq_count, step_count}
 use Rattle.event_log.specs.declared.entry.Entry.{Entry}
 use Rattle.kernel_state.specs.Sound.{IsSound as IsSoundKernel}
@@ -16,10 +16,10 @@ use Rattle.rv_core.specs.Execute.{Effect, Completes, Stores, Calls, Faults}
 use Rattle.board_core.specs.Action.{acted, device_of, status_of}
 use Rattle.board_core.specs.Boot.{booted, regions_of}
 use Rattle.board_core.specs.Laws.{ImagesStay, IsWorld, RegionsStay, images_in}
-use Rattle.board_core.specs.Machine.{Stands, origin_of, shown}
+use Rattle.board_core.specs.Machine.{Stands, shown}
 use Rattle.board_core.specs.Next.{next}
 use Rattle.board_core.specs.Run.{run}
-use Rattle.board_core.specs.Step.{after_effect, after_fault, next_effect, stepped, stepped_by}
+use Rattle.board_core.specs.Step.{after_effect, after_fault}
 use Rattle.board_core.specs.World.{World, device_at, fresh_device, with_taken}
 use Rattle.board_core.specs.declared.device.Device.{Device}
 
@@ -50,35 +50,52 @@ is_world stay w now e sound is keeps =
       taken = keeps.taken;
     }
 
+-- events lead from a world to another, of which the same holds, and with the same images
+pub record Leads (w : World) (es : List Event) (now : World) : Type 0 where
+  pub run : fold next w es ≡ now
+  pub world : IsWorld now
+  pub images : images_in now.memory now.modules ≡ images_in w.memory w.modules
+
+pub nothing_leads : (w : World) → IsWorld w → Leads w [] w
+nothing_leads w world = record { run = refl; world = world; images = refl }
+
+pub event_leads : ImagesStay → RegionsStay → (w now : World) (e : Event) → IsWorld w → next w e ≡ now → Keeps now → Leads w (e ∷ []) now
+event_leads images regions w now e world is keeps =
+    record { run = is; world = is_world regions w now e world is keeps; images = images_shown images w now e world is }
+
+pub leads_on : (w middle now : World) (es fs : List Event) → Leads w es middle → Leads middle fs now → Leads w (es ++ fs) now
+leads_on w middle now es fs first then =
+    record {
+      run = fold-append next w es fs ∙ (ap (λ (v : World). fold next v fs) first.run ∙ then.run);
+      world = then.world;
+      images = then.images ∙ first.images;
+    }
+
+pub events_stand : (b : Board) (k k' : Kernel) (g g' : Memory) (ms ms' : List Module) (ds ds' : List Device) (h h' : List Entry) (es : List Event)
+    → Stands b k g ms ds h → events_of h' ≡ events_of h ++ es → Leads (shown b k g ms ds h) es (shown b k' g' ms' ds' h') → Stands b k' g' ms' ds' h'
+events_stand b k k' g g' ms ms' ds ds' h h' es stands events leads =
+    record {
+      run = ap (λ (i : List (List ℕ)). run (record { board = b; images = i }) h') leads.images
+          ∙ (ap (fold next (booted b (images_in g ms))) events
+          ∙ (fold-append next (booted b (images_in g ms)) (events_of h) es
+          ∙ (ap (λ (v : World). fold next v es) stands.run ∙ leads.run)));
+      world = leads.world;
+    }
+
 pub event_stands : ImagesStay → RegionsStay → (b : Board) (k k' : Kernel) (g g' : Memory) (ms ms' : List Module) (ds ds' : List Device) (h h' : List Entry) (e : Event)
     → Stands b k g ms ds h → events_of h' ≡ events_of h ++ e ∷ [] → next (shown b k g ms ds h) e ≡ shown b k' g' ms' ds' h'
     → Keeps (shown b k' g' ms' ds' h') → Stands b k' g' ms' ds' h'
 event_stands images regions b k k' g g' ms ms' ds ds' h h' e stands events is keeps =
-    let w = shown b k g ms ds h in
-    let now = shown b k' g' ms' ds' h' in
-    record {
-      run = ap (λ (i : List (List ℕ)). run (record { board = b; images = i }) h') (images_shown images w now e stands.world is)
-          ∙ (ap (fold next (booted b (images_in g ms))) events
-          ∙ (fold-append next (booted b (images_in g ms)) (events_of h) (e ∷ [])
-          ∙ (ap (λ (v : World). next v e) stands.run ∙ is)));
-      world = is_world regions w now e stands.world is keeps;
-    }
+    events_stand b k k' g g' ms ms' ds ds' h h' (e ∷ []) stands events
+    (event_leads images regions (shown b k g ms ds h) (shown b k' g' ms' ds' h') e stands.world is keeps)
 
 -- a step keeps the number of modules
-effect_modules : (k : Kernel) (g : Memory) (ms : List Module) (t : ℕ) (e : Effect) → length (after_effect k g ms t e).modules ≡ length ms
+pub effect_modules : (k : Kernel) (g : Memory) (ms : List Module) (t : ℕ) (e : Effect) → length (after_effect k g ms t e).modules ≡ length ms
 unfolding after_fault
 effect_modules k g ms t (Completes h) = refl
 effect_modules k g ms t (Stores a n value h) = refl
 effect_modules k g ms t (Calls h) = refl
 effect_modules k g ms t (Faults cause) = length-set ms _ _
-
-step_modules_by : (k : Kernel) (g : Memory) (ms : List Module) (run : Option ℕ) → length (stepped_by k g ms run).modules ≡ length ms
-step_modules_by k g ms None = refl
-step_modules_by k g ms (Some t) = effect_modules k g ms t (next_effect k g t)
-
-pub step_modules : (k : Kernel) (g : Memory) (ms : List Module) → length (stepped k g ms).modules ≡ length ms
-unfolding stepped
-step_modules k g ms = step_modules_by k g ms k.ready.run
 
 -- one interrupt more, of one device, is at least what was taken of each
 pub taken_more : (ds : List Device) (d status n : ℕ) → d < length ds → All (λ x. x.taken ≤ n) ds → All (λ x. x.taken ≤ n + 1) (with_taken ds d status)
@@ -88,23 +105,10 @@ taken_more ds d status n inside all =
     (All-weaker (λ (x : Device). x.taken ≤ n) (λ (x : Device). x.taken ≤ n + 1) (λ x le. omega (arith, le)) ds all)
 
 -- the parts and the counts of a world
-abbrev counted : Board → Kernel → Memory → List Module → List Device → ℕ → ℕ → World
+abbrev pub counted : Board → Kernel → Memory → List Module → List Device → ℕ → ℕ → World
 counted b k g ms ds steps irqs = record { board = b; kernel = k; memory = g; modules = ms; devices = ds; steps = steps; irqs = irqs; ended = [] }
 
--- the world after a step is the one that is shown by the parts as they were left and the grown history
-pub step_next : (b : Board) (k k' : Kernel) (g g' : Memory) (ms ms' : List Module) (ds : List Device) (h h' : List Entry)
-    → k' ≡ (stepped k g ms).kernel → g' ≡ (stepped k g ms).memory → ms' ≡ (stepped k g ms).modules
-    → step_count h' ≡ step_count h + 1 → irq_count h' ≡ irq_count h
-    → next (shown b k g ms ds h) Step ≡ shown b k' g' ms' ds h'
-step_next b k k' g g' ms ms' ds h h' kernel memory modules steps irqs =
-    let p = stepped k g ms in
-    ap (λ (x : Kernel). counted b x p.memory p.modules ds (step_count h + 1) (irq_count h)) (sym kernel)
-    ∙ (ap (λ (x : Memory). counted b k' x p.modules ds (step_count h + 1) (irq_count h)) (sym memory)
-    ∙ (ap (λ (x : List Module). counted b k' g' x ds (step_count h + 1) (irq_count h)) (sym modules)
-    ∙ (ap (λ n. counted b k' g' ms' ds n (irq_count h)) (sym steps)
-    ∙ ap (λ n. counted b k' g' ms' ds (step_count h') n) (sym irqs))))
-
--- and after an interrupt
+-- the world after an interrupt is the one that is shown by the parts as they were left and the grown history
 pub irq_next : (b : Board) (k k' : Kernel) (g g' : Memory) (ms : List Module) (ds ds' : List Device) (h h' : List Entry) (d word status : ℕ)
     → k' ≡ (acted k g (device_of b d).action (device_of b d).target word).kernel
     → g' ≡ (acted k g (device_of b d).action (device_of b d).target word).memory

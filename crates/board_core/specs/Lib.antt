@@ -1,5 +1,6 @@
 pub mod Action
 pub mod Boot
+pub mod Burst
 pub mod Bus
 pub mod Frame
 pub mod Laid

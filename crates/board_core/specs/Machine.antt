@@ -1,7 +1,7 @@
 -- What a machine stands for: the run of the history that it keeps, from the board and the images that it keeps.
 use Rattle.std.specs.Prelude.{◌≡◌, ℕ, List, []}
 use Rattle.board_file.specs.declared.board.Board.{Board}
-use Rattle.event_log.specs.Log.{Log, step_count, irq_count}
+use Rattle.event_log.specs.Log.{step_count, irq_count}
 use Rattle.event_log.specs.declared.entry.Entry.{Entry}
 use Rattle.kernel_state.specs.declared.kernel.Kernel.{Kernel}
 use Rattle.module_manager.specs.declared.modules.Module.{Module}

@@ -20,6 +20,9 @@ pub record Parts : Type 0 where
   pub memory : Memory
   pub modules : List Module
 
+abbrev pub parts : Kernel → Memory → List Module → Parts
+parts k g ms = record { kernel = k; memory = g; modules = ms }
+
 -- a thread's registers are set
 abbrev pub with_hart : Kernel → ℕ → HartState → Kernel
 with_hart k t h = with_thread k t (record (thread k t) { hart = h })

@@ -3,6 +3,7 @@
 
 mod action;
 mod boot;
+mod bursts;
 mod bus;
 mod device;
 pub mod laws;
@@ -16,6 +17,7 @@ mod shows;
 mod step;
 
 pub use boot::BootErr;
+pub use bursts::{BurstEnd, burst};
 pub use bus::GuardBus;
 pub use device::Device;
 pub use machine::Machine;

@@ -2,8 +2,8 @@
 //!
 //! Its type keeps that the parts show what the written machine reaches from the board and the images
 //! by that history. Every event's memory was taken at boot, and each event always returns.
-ghost use Rattle.std.specs.Prelude.{◌≡◌, ◌<◌, ◌≤◌, length};
-ghost use Rattle.event_log.specs.Log.{irq_count, step_count, with_irq, with_step};
+ghost use Rattle.std.specs.Prelude.{◌≡◌, ◌+◌, ◌<◌, ◌≤◌, length};
+ghost use Rattle.event_log.specs.Log.{irq_count, step_count, with_irq, with_step, with_steps};
 ghost use Rattle.kernel_state.specs.Sound.{IsSound};
 ghost use Rattle.region_guard.specs.Memory.{IsSound as IsSoundMemory};
 ghost use Rattle.module_manager.specs.Modules.{module_at};
@@ -14,11 +14,13 @@ ghost use Rattle.board_core.specs.World.{device_at, with_taken};
 use crate::action::act;
 use crate::device::Device;
 use crate::laws::an_event_keeps_regions_and_images;
-use crate::step::step;
+use crate::step::turn;
 use board_file::Board;
 use board_values::DevNo;
-use event_log::{History, a_history_grows_by_one_event};
+use event_log::{History, a_history_grows_by_one_event, a_history_grows_by_steps};
+use flat_ram::a_write_changes_its_range_alone;
 use kernel_state::Kernel;
+use kernel_state::laws::{a_kernel_stays_sound, who_runs_is_a_thread};
 use module_loader::Placed;
 use module_manager::Manager;
 use region_guard::Guard;
@@ -58,11 +60,38 @@ impl Machine {
         requires { step_count self.old.history < 100000000 }
         ensures { self.new ≡ record self.old { history = with_step self.old.history } }
     {
-        a_history_grows_by_one_event();
+        self.steps(1);
+    }
+
+    /// Makes n steps, one after another.
+    pub fn steps(&mut self, n: u32)
+        requires { step_count self.old.history + n ≤ 100000000 }
+        ensures { self.new ≡ record self.old { history = with_steps n self.old.history } }
+    {
+        a_history_grows_by_steps();
+        let mut left = n;
+        while left > 0 {
+            left -= self.turn(left);
+        }
+    }
+
+    /// Makes at least one step and at most so many, and says how many.
+    fn turn(&mut self, most: u32) -> u32
+        requires some { 0 < most }
+        requires room { step_count self.old.history + most ≤ 100000000 }
+        ensures some { 0 < result }
+        ensures at_most { result ≤ most }
+        ensures history { self.new ≡ record self.old { history = with_steps result self.old.history } }
+    {
+        a_history_grows_by_steps();
         an_event_keeps_regions_and_images();
-        step(&mut self.kernel, &mut self.guard, &mut self.modules);
+        who_runs_is_a_thread();
+        a_kernel_stays_sound();
+        a_write_changes_its_range_alone();
+        let made = turn(&mut self.kernel, &mut self.guard, &mut self.modules, most);
         is_guarded(&self.guard);
-        self.history.add_step();
+        self.history.add_steps(made);
+        made
     }
 
     /// Takes one interrupt of device d with word w: the device's action is made, and the device keeps

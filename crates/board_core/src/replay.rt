@@ -1,7 +1,7 @@
 //! A machine as what stands for a world: a history can be made again on it.
 use crate::machine::Machine;
 use board_values::{DevNo, Report};
-use event_log::{Replayer, a_history_grows_by_one_event};
+use event_log::{Replayer, a_history_grows_by_one_event, a_history_grows_by_steps};
 use std::alloc::Global;
 use tx_types::NoMemory;
 
@@ -30,6 +30,14 @@ impl Replayer for Machine {
     fn step(&mut self) {
         a_history_grows_by_one_event();
         Machine::step(self);
+    }
+
+    fn steps(&mut self, n: u32) {
+        a_history_grows_by_steps();
+        // Where there is no step to make, nothing is known of the room.
+        if n > 0 {
+            Machine::steps(self, n);
+        }
     }
 
     fn take(&mut self, d: DevNo, w: u32) {

@@ -1,15 +1,15 @@
-//! One step of the board: the running thread's next instruction, with its whole call where that is
-//! an ECALL.
+//! Steps of the board: the running thread's next instructions, and the whole call or the fault behind
+//! them.
 //!
-//! A step touches what its instruction touches, and no table is looked through.
-ghost use Rattle.std.specs.Prelude.{◌≡◌, ◌<◌, Some};
+//! A step touches what its instruction touches, and no table is looked through. Only a call or a
+//! fault can change who runs, so that is asked behind them alone.
+ghost use Rattle.std.specs.Prelude.{◌≡◌, Some};
 ghost use Rattle.kernel_state.specs.Kernel.{thread};
 ghost use Rattle.kernel_state.specs.Sound.{IsSound};
-ghost use Rattle.region_guard.specs.Memory.{with_number};
-ghost use Rattle.rv_core.specs.Execute.{bus_after, hart_after, out_of};
-ghost use Rattle.board_core.specs.Step.{after_effect, next_effect, stepped, with_hart};
+ghost use Rattle.board_core.specs.Burst.{burst_of, hart_at, out_at, turned};
+ghost use Rattle.board_core.specs.Step.{parts, with_hart};
 
-use crate::bus::GuardBus;
+use crate::bursts::{BurstEnd, burst};
 use call_dispatch::dispatch;
 use kernel_state::Kernel;
 use kernel_state::laws::{a_kernel_stays_sound, who_runs_is_a_thread};
@@ -18,31 +18,31 @@ use region_guard::Guard;
 use rv_core::Out;
 use tx_types::ThreadNo;
 
-/// Makes a step; where no thread runs nothing changes.
-#[tactic(auto, unfolding(crate::specs::Step::stepped))]
-pub(crate) fn step(k: &mut Kernel, g: &mut Guard, ms: &mut Manager)
+/// Makes the steps up to the next call or fault, with that, at most so many, and says how many; all
+/// of them where no thread runs.
+pub(crate) fn turn(k: &mut Kernel, g: &mut Guard, ms: &mut Manager, most: u32) -> u32
     requires { IsSound k.old }
-    ensures kernel { k.new ≡ (stepped k.old g.old ms.old).kernel }
-    ensures memory { g.new ≡ (stepped k.old g.old ms.old).memory }
-    ensures modules { ms.new ≡ (stepped k.old g.old ms.old).modules }
+    ensures made { result ≡ (turned most k.old g.old ms.old k.old.ready.run).made }
+    ensures parts { parts k.new g.new ms.new ≡ (turned most k.old g.old ms.old k.old.ready.run).parts }
     ensures sound { IsSound k.new }
 {
-    if let Some(t) = k.running() {
-        step_thread(k, g, ms, t);
+    match k.running() {
+        Some(t) => turn_of(k, g, ms, t, most),
+        None => most,
     }
 }
 
-/// Makes a step of the running thread.
-fn step_thread(k: &mut Kernel, g: &mut Guard, ms: &mut Manager, t: ThreadNo)
+/// Makes the steps of the running thread.
+fn turn_of(k: &mut Kernel, g: &mut Guard, ms: &mut Manager, t: ThreadNo, most: u32) -> u32
     requires sound { IsSound k.old }
     requires runs { k.old.ready.run ≡ Some t }
-    ensures kernel { k.new ≡ (after_effect k.old g.old ms.old t (next_effect k.old g.old t)).kernel }
-    ensures memory { g.new ≡ (after_effect k.old g.old ms.old t (next_effect k.old g.old t)).memory }
-    ensures modules { ms.new ≡ (after_effect k.old g.old ms.old t (next_effect k.old g.old t)).modules }
+    ensures made { result ≡ (turned most k.old g.old ms.old (Some t)).made }
+    ensures parts { parts k.new g.new ms.new ≡ (turned most k.old g.old ms.old (Some t)).parts }
     ensures sound { IsSound k.new }
 {
-    match execute(k, g, t) {
-        Out::Done => {}
+    let ran = execute(k, g, t, most);
+    match ran.out {
+        Out::Done => return ran.done,
         Out::Call => dispatch(k, g, t),
         Out::Fault(cause) => {
             who_runs_is_a_thread();
@@ -50,18 +50,19 @@ fn step_thread(k: &mut Kernel, g: &mut Guard, ms: &mut Manager, t: ThreadNo)
             ms.fault(k, g, t, cause, pc);
         }
     }
+    ran.done + 1
 }
 
-/// Executes the instruction at a thread's pc, for its module.
-fn execute(k: &mut Kernel, g: &mut Guard, t: ThreadNo) -> Out
+/// Executes a thread's code, for its module.
+fn execute(k: &mut Kernel, g: &mut Guard, t: ThreadNo, most: u32) -> BurstEnd
     requires { IsSound k.old }
-    ensures out { result ≡ out_of (next_effect k.old g.old t) }
-    ensures kernel { k.new ≡ with_hart k.old t (hart_after (next_effect k.old g.old t) (thread k.old t).hart) }
-    ensures memory { g.new ≡ bus_after with_number (next_effect k.old g.old t) g.old }
+    ensures done { result.done ≡ (burst_of k.old g.old t most).done }
+    ensures out { result.out ≡ out_at (burst_of k.old g.old t most).end }
+    ensures kernel { k.new ≡ with_hart k.old t (hart_at (burst_of k.old g.old t most).end (burst_of k.old g.old t most).hart) }
+    ensures memory { g.new ≡ (burst_of k.old g.old t most).memory }
     ensures sound { IsSound k.new }
 {
     a_kernel_stays_sound();
     let module = k.module_of(t);
-    let mut bus = GuardBus { guard: g, module };
-    rv_core::step(k.hart_mut(t), &mut bus)
+    burst(k.hart_mut(t), g, module, most)
 }
