@@ -6,6 +6,5 @@ pub mod LyingAlone
 pub mod ModuleLines
 pub mod Numbers
 pub mod Places
-pub mod Running
 pub mod Step
 pub mod Writing

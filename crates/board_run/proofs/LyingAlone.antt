@@ -8,8 +8,9 @@ use Rattle.module_loader.specs.declared.placement.Range.{Range}
 use Rattle.module_preamble.specs.Words.{has_callback}
 use Rattle.module_preamble.specs.declared.words.Preamble.{Preamble}
 use Rattle.region_guard.specs.Memory.{ram_base}
+use Rattle.board_core.specs.Boot.{free_ram}
 use Rattle.board_run.specs.Alone.{alone_at}
-use Rattle.board_run.specs.Placing.{free_ram, places_in}
+use Rattle.board_run.specs.Placing.{places_in}
 use Rattle.board_run.specs.Refused.{refused_room}
 
 -- the one free range gives its first bytes

@@ -1,15 +1,11 @@
 -- Where modules lie in RAM that is all free.
-use Rattle.std.specs.Prelude.{ℕ, List, [], ◌∷◌, Result}
+use Rattle.std.specs.Prelude.{ℕ, List, Result}
 use Rattle.module_loader.specs.Placement.{placement}
 use Rattle.module_loader.specs.declared.placement.Placed.{Placed}
-use Rattle.module_loader.specs.declared.placement.Range.{Range}
 use Rattle.module_loader.specs.declared.want.Want.{Want}
-use Rattle.region_guard.specs.Memory.{ram_base}
+use Rattle.board_core.specs.Boot.{free_ram}
 use Rattle.board_run.specs.Refused.{refused_room}
 use Rattle.board_run.specs.declared.refusal.Stop.{Stop}
-
-abbrev pub free_ram : ℕ → List Range
-free_ram size = record { base = ram_base; size = size } ∷ []
 
 -- the places in RAM of so many bytes
 abbrev pub places_in : ℕ → List Want → Result (List Placed) Stop

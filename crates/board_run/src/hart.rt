@@ -4,12 +4,11 @@
 ghost use Rattle.std.specs.Prelude.{◌≡◌, ◌+◌, ◌≤◌, ◌++◌, length};
 ghost use Rattle.std.specs.Option.{option_map};
 ghost use Rattle.arrayvec.specs.ArrayString.{array_string_len};
-ghost use Rattle.rv_core.specs.Execute.{executed};
 ghost use Rattle.board_run.specs.Due.{image_ran, hart_ran};
 ghost use Rattle.board_run.specs.Faults.{Rose};
 ghost use Rattle.board_run.specs.Reading.{Gives, GivesHere};
 ghost use Rattle.board_run.specs.Sink.{Wrote};
-ghost use Rattle.board_run.specs.Hart.{ran, memory_ran, hart_text, end_text, steps_line, pc_line, regs_line};
+ghost use Rattle.board_run.specs.Hart.{memory_ran, hart_text, end_text, steps_line, pc_line, regs_line};
 
 use crate::alone::{RAM_ALONE, memory_alone, place_alone};
 use crate::files::Files;
@@ -17,11 +16,11 @@ use crate::images::preamble_of;
 use crate::reading::{MOST_IMAGE, image_of};
 use crate::refusal::Stop;
 use crate::sink::{Sink, WriteErr};
-use board_core::GuardBus;
+use board_core::burst;
 use board_report::{end_line, put_words};
 use module_loader::opening;
 use region_guard::Guard;
-use rv_core::{Bus, Cause, Hart, Out, step};
+use rv_core::{Cause, Hart, Out};
 use std::alloc::Global;
 use tx_types::{Line, ModNo, put_decimal, put_hex};
 
@@ -78,39 +77,25 @@ pub fn write_hart<S: Sink>(ran: &Ran, sink: &mut S) -> Result<(), WriteErr>
     sink.write(regs_line(ran).as_str().as_bytes())
 }
 
-/// Runs the code of module 0.
-#[tactic(auto, using(crate::proofs::Running::ran_guarded), unfolding(crate::specs::Hart::memory_ran))]
-fn memory_ran(guard: &mut Guard, hart: Hart, most: u32) -> Ran
+/// Runs the code of module 0. A call isn't counted, and pc stays on it.
+#[tactic(auto, unfolding(crate::specs::Hart::memory_ran))]
+fn memory_ran(guard: &mut Guard, mut hart: Hart, most: u32) -> Ran
     ensures { result ≡ memory_ran most guard.old hart }
 {
-    let module = ModNo::new(0);
-    let mut bus = GuardBus { guard, module };
-    run(hart, &mut bus, most)
-}
-
-/// Executes at most so many instructions. A call isn't counted, and pc stays on it.
-fn run<B: Bus>(mut hart: Hart, bus: &mut B, most: u32) -> Ran
-    ensures { result ≡ ran (λ b. executed (B.memory b)) B.after_store most bus.old hart }
-{
-    for steps in 0..most {
-        let pc = hart.pc;
-        match step(&mut hart, bus) {
-            Out::Done => {}
-            Out::Call => {
-                hart.pc = pc;
-                return ran_to(steps, End::Call, hart);
-            }
-            Out::Fault(cause) => return ran_to(steps, End::Fault(cause), hart),
+    let ran = burst(&mut hart, guard, ModNo::new(0), most);
+    let end = match ran.out {
+        Out::Done => End::Count,
+        Out::Call => {
+            hart.pc = hart.pc.wrapping_sub(4);
+            End::Call
         }
+        Out::Fault(cause) => End::Fault(cause),
+    };
+    Ran {
+        steps: ran.done,
+        end,
+        hart,
     }
-    ran_to(most, End::Count, hart)
-}
-
-/// The run that ended so.
-fn ran_to(steps: u32, end: End, hart: Hart) -> Ran
-    ensures { result ≡ record { steps = steps; end = end; hart = hart } }
-{
-    Ran { steps, end, hart }
 }
 
 /// Appends how a run ended.
