@@ -7,28 +7,13 @@
 # Not a part of the gate. It says "skipped" and passes where gcc or python3 is missing, or the program isn't
 # built.
 # Usage: replay.sh [RUNS [STEPS]]
-set -euo pipefail
-export LC_ALL=C
-cd "$(dirname "${BASH_SOURCE[0]}")/.."
-
-for tool in gcc python3; do
-    if ! command -v "$tool" >/dev/null; then
-        echo "replay: skipped, there is no $tool"
-        exit 0
-    fi
-done
-txboard=$PWD/crates/txboard/out/txboard
-if [ ! -x "$txboard" ]; then
-    echo "replay: skipped, the program isn't built: call ./txboard once"
-    exit 0
-fi
+bench=replay
+. "$(dirname "${BASH_SOURCE[0]}")/timing.sh"
+needs gcc python3
+interpreter
 runs="${1:-10}"
 most="${2:-100000000}"
 
-work=$(mktemp -d)
-trap 'rm -rf "$work"' EXIT
-gcc -O2 -std=gnu11 -Wall -Wextra -o "$work/hart" bench/hart.c
-python3 bench/loops.py "$work"
 cd "$work"
 # LW x6,8(x3); ADDI x6,x6,1; SW x6,8(x3); JAL x0,-12 behind the preamble of the others
 python3 - <<'PYTHON'
@@ -38,18 +23,6 @@ code = [0x0081A303, 0x00130313, 0x0061A423, 0xFF5FF06F]
 open("counting.img", "wb").write(struct.pack("<36I", *head, *code))
 PYTHON
 printf 'S %s\n' "$most" >log
-TIMEFORMAT='%U %S'
-# timed NAME COMMAND..: runs the command, keeps its text as NAME.out and adds its seconds to NAME.times
-timed() {
-    local name=$1
-    shift
-    { time "$@" >"$name.out" 2>"$name.err"; } 2>>"$name.times"
-}
-# least NAME: the least seconds of the runs
-least() {
-    awk '{ s = $1 + $2; if (NR == 1 || s < best) best = s }
-        END { printf "%.3f", (best < 0.001 ? 0.001 : best) }' "$1.times"
-}
 
 printf '%-12s %10s %10s %10s %14s %10s\n' loop replay hart C replay/hart hart/C
 for loop in counting arithmetic memory division; do
@@ -58,13 +31,10 @@ for loop in counting arithmetic memory division; do
     for ((run = 0; run < runs; run++)); do
         if ! timed board "$txboard" replay board log || ! timed alone "$txboard" hart "$loop.img" "$most" ||
             ! timed plain "$work/hart" "$loop.img" "$most"; then
-            echo "FAILED $loop: a run ended with another status than 0"
-            exit 1
+            failed "$loop" "a run ended with another status than 0"
         fi
-        if ! diff <(grep '^regs ' board.out) <(grep '^regs ' alone.out) >/dev/null; then
-            echo "FAILED $loop: the registers differ"
-            exit 1
-        fi
+        diff <(grep '^regs ' board.out) <(grep '^regs ' alone.out) >/dev/null ||
+            failed "$loop" "the registers differ"
     done
     awk -v loop="$loop" -v most="$most" -v board="$(least board)" -v alone="$(least alone)" -v plain="$(least plain)" 'BEGIN {
         printf "%-12s %10.1f %10.1f %10.1f %13.0f%% %9.0f%%\n", loop, most / board / 1e6, most / alone / 1e6, most / plain / 1e6,
