@@ -1,6 +1,6 @@
 #!/bin/bash
 # Compares the execution of instructions with qemu's: random RV32IM programs, packed into one static executable
-# a seed, are run by qemu's user mode, and by `step` over guarded memory as a scratch program on a copy of the
+# a seed, are run by qemu's user mode, and by `burst` over guarded memory as a scratch program on a copy of the
 # repository, with no proof. What all programs left in registers and buffers must be the same.
 # Not a part of the gate. It says "skipped" and passes where a tool is missing:
 # apt-get install binutils-riscv64-unknown-elf qemu-user
@@ -25,7 +25,7 @@ trap 'rm -rf "$scratch"' EXIT
 
 mkdir -p "$scratch/copy/crates/hart_alone/src"
 cp HANDLES "$scratch/copy/"
-for crate in machine_words rv_decode rv_core tx_types flat_ram region_guard board_core; do
+for crate in board_core $(sed -n 's/^board_core: //p' crates.txt); do
     mkdir "$scratch/copy/crates/$crate"
     for part in src specs proofs; do
         if [ -d "crates/$crate/$part" ]; then
@@ -41,10 +41,10 @@ cat >"$scratch/copy/crates/hart_alone/src/main.rt" <<'PROGRAM'
 #![tactic(auto)]
 
 use anyhow::{Result, anyhow, ensure};
-use board_core::GuardBus;
+use board_core::{BurstEnd, burst};
 use flat_ram::Ram;
 use region_guard::{Access, Guard, RAM_BASE, Region, Rights};
-use rv_core::{Hart, Out, step};
+use rv_core::Hart;
 use std::fs;
 use tx_types::ModNo;
 
@@ -64,16 +64,9 @@ fn main(rt: HostRuntime) -> Result<()> {
     let data = Region { base: RAM_BASE + CODE, size: size - CODE, rights: Rights::ReadWrite, who: 1 };
     ensure!(guard.add(code).is_ok() && guard.add(data).is_ok(), "regions");
     let mut hart = Hart { pc: RAM_BASE, x: [0; 32] };
-    let mut bus = GuardBus { guard: &mut guard, module };
-    let mut steps = 0u64;
-    let mut out = Out::Done;
-    while out == Out::Done && steps < 100_000_000 {
-        out = step(&mut hart, &mut bus);
-        steps += 1;
-    }
-    let GuardBus { guard, module } = bus;
+    let BurstEnd { done, out } = burst(&mut hart, &mut guard, module, 100_000_000);
     let pc = hart.pc;
-    println!(rt; "end {out:?} at {pc:08x} after {steps}")?;
+    println!(rt; "end {out:?} at {pc:08x} after {done}")?;
     let words = (size - CODE) / 4;
     for program in 0..words / WORDS {
         print!(rt; "program ")?;
