@@ -21,6 +21,3 @@ pub use bursts::{BurstEnd, burst};
 pub use bus::GuardBus;
 pub use device::Device;
 pub use machine::Machine;
-
-#[cfg(test)]
-mod tests;

@@ -145,6 +145,3 @@ fn module_line(number: u8, m: &BoardModule, want: &Want, at: Placed) -> Line
     end_line(&mut line);
     line
 }
-
-#[cfg(test)]
-mod tests;

@@ -89,6 +89,3 @@ fn number(word: &str, most: u32) -> Option<u32>
         None
     }
 }
-
-#[cfg(test)]
-mod tests;

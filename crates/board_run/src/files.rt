@@ -125,6 +125,3 @@ fn answer(alloc: Global, failing: bool, held: Option<&[u8]>, max: u32) -> Result
     let end = bytes.len().min(max as usize + 1);
     Vec::from_slice(alloc, &bytes[..end]).map_err(|_| ReadErr::NoMemory)
 }
-
-#[cfg(test)]
-mod tests;

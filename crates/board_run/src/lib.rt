@@ -15,8 +15,6 @@ mod placing;
 mod reading;
 mod refusal;
 mod replay;
-#[cfg(test)]
-mod samples;
 mod sink;
 mod status;
 mod still;

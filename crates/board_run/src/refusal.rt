@@ -162,6 +162,3 @@ fn rule(err: &PreErr) -> Line
     }
     line
 }
-
-#[cfg(test)]
-mod tests;

@@ -187,6 +187,3 @@ fn write_report<S: Sink>(report: &Report, sink: &mut S) -> Result<(), WriteErr>
     }
     Ok(())
 }
-
-#[cfg(test)]
-mod tests;

@@ -129,6 +129,3 @@ fn append(written: &mut Vec<u8>, kept: Option<u32>, piece: &[u8]) -> Result<(), 
     let _ = written.extend_from_slice(&piece[..end]);
     Err(WriteErr::Failed)
 }
-
-#[cfg(test)]
-mod tests;

@@ -185,6 +185,3 @@ fn end<S: Sink>(text: &str, status: Status, sink: &mut S) -> Status
         Err(_) => Status::WriteFault,
     }
 }
-
-#[cfg(test)]
-mod tests;

@@ -107,43 +107,66 @@ fn names_the_refusals(rt: HostRuntime) {
 
 #[test]
 fn refuses_by_the_first_broken_rule(rt: HostRuntime) {
-    for (len, first, second, refusal) in CASES {
-        let bytes = image([first, second]);
-        let bytes = bytes.get(..len).expect(&rt, "a length up to 136");
-        assert_eq!(rt;
-            read(bytes).err(),
-            refusal,
-            "{len} bytes with {first:?}, {second:?}"
-        );
+    let rules: [&[Case]; 10] = [
+        &LENGTH,
+        &ID,
+        &VERSION,
+        &SIZE,
+        &PROPERTIES,
+        &CODE,
+        &DATA,
+        &ENTRIES,
+        &PRIORITIES,
+        &STACKS,
+    ];
+    for cases in rules {
+        for &(len, first, second, refusal) in cases {
+            let bytes = image([first, second]);
+            let bytes = bytes.get(..len).expect(&rt, "a length up to 136");
+            assert_eq!(rt;
+                read(bytes).err(),
+                refusal,
+                "{len} bytes with {first:?}, {second:?}"
+            );
+        }
     }
 }
 
 /// The length, two changed words, and the refusal.
-const CASES: [(usize, (usize, u32), (usize, u32), Option<PreErr>); 69] = [
+type Case = (usize, (usize, u32), (usize, u32), Option<PreErr>);
+
+const LENGTH: [Case; 7] = [
     (132, NONE, NONE, None),
-    // Length.
     (0, NONE, NONE, Some(Short(0))),
     (127, NONE, NONE, Some(Short(127))),
     (127, (0, 0), NONE, Some(Short(127))),
     (128, NONE, NONE, Some(BadCode(132))),
     (136, NONE, NONE, Some(BadCode(132))),
     (136, (14, 136), NONE, None),
-    // Id.
+];
+
+const ID: [Case; 3] = [
     (132, (0, 0x4D4F_4454), NONE, Some(BadId(0x4D4F_4454))),
     (132, (0, 0x4D4F_4456), (1, 9), Some(BadId(0x4D4F_4456))),
     (132, (0, 0x5544_4F4D), NONE, Some(BadId(0x5544_4F4D))),
-    // Major and minor version.
+];
+
+const VERSION: [Case; 5] = [
     (132, (1, 0), NONE, Some(BadMajor(0))),
     (132, (1, 1), NONE, None),
     (132, (1, 7), NONE, Some(BadMajor(7))),
     (132, (1, 7), (3, 31), Some(BadMajor(7))),
     (132, (2, 0xFFFF_FFFF), NONE, None),
-    // Size of the preamble, and the module's number.
+];
+
+const SIZE: [Case; 4] = [
     (132, (3, 31), NONE, Some(BadSize(31))),
     (132, (3, 33), NONE, Some(BadSize(33))),
     (132, (3, 128), (5, 0), Some(BadSize(128))),
     (132, (4, 0xFFFF_FFFF), NONE, None),
-    // Properties.
+];
+
+const PROPERTIES: [Case; 8] = [
     (132, (5, 0), NONE, Some(BadProps(0))),
     (132, (5, 1), NONE, Some(BadProps(1))),
     (132, (5, 2), NONE, Some(BadProps(2))),
@@ -152,18 +175,24 @@ const CASES: [(usize, (usize, u32), (usize, u32), Option<PreErr>); 69] = [
     (132, (5, 0xFFFF_FFFE), NONE, Some(BadProps(0xFFFF_FFFE))),
     (132, (5, 0xFFFF_FFFD), NONE, Some(BadProps(0xFFFF_FFFD))),
     (132, (5, 0), (14, 128), Some(BadProps(0))),
-    // Size of the code.
+];
+
+const CODE: [Case; 5] = [
     (128, (14, 128), NONE, Some(BadEntry(0, 128))),
     (132, (14, 128), NONE, Some(BadCode(128))),
     (132, (14, 136), NONE, Some(BadCode(136))),
     (133, (14, 133), NONE, Some(BadCode(133))),
     (132, (14, 128), (15, 1_048_577), Some(BadCode(128))),
-    // Size of the data.
+];
+
+const DATA: [Case; 4] = [
     (132, (15, 0), NONE, None),
     (132, (15, 1_048_576), NONE, None),
     (132, (15, 1_048_577), NONE, Some(BadData(1_048_577))),
     (132, (15, 1_048_577), (6, 0), Some(BadData(1_048_577))),
-    // Entries.
+];
+
+const ENTRIES: [Case; 16] = [
     (132, (6, 0), NONE, Some(BadEntry(0, 0))),
     (132, (6, 124), NONE, Some(BadEntry(0, 124))),
     (132, (6, 129), NONE, Some(BadEntry(0, 129))),
@@ -180,7 +209,9 @@ const CASES: [(usize, (usize, u32), (usize, u32), Option<PreErr>); 69] = [
     (132, (8, 132), (11, 132), Some(BadEntry(2, 132))),
     (132, (11, 1), NONE, Some(BadEntry(3, 1))),
     (132, (11, 132), (9, 32), Some(BadEntry(3, 132))),
-    // Priorities.
+];
+
+const PRIORITIES: [Case; 7] = [
     (132, (9, 0), NONE, None),
     (132, (9, 31), NONE, None),
     (132, (9, 32), NONE, Some(BadPrio(0, 32))),
@@ -188,7 +219,9 @@ const CASES: [(usize, (usize, u32), (usize, u32), Option<PreErr>); 69] = [
     (132, (11, 128), (12, 31), Some(BadStack(1, 0))),
     (132, (11, 128), (12, 32), Some(BadPrio(1, 32))),
     (132, (12, 32), NONE, None),
-    // Stacks.
+];
+
+const STACKS: [Case; 10] = [
     (132, (10, 63), NONE, Some(BadStack(0, 63))),
     (132, (10, 63), (11, 128), Some(BadStack(0, 63))),
     (132, (10, 64), NONE, None),

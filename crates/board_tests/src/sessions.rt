@@ -4,7 +4,8 @@
 ghost use Rattle.board_file.specs.Rules.{IsBoard};
 ghost use Rattle.board_report.specs.Printable.{IsPrintable};
 
-use crate::Machine;
+use crate::samples::{self, HEAD};
+use board_core::Machine;
 use board_file::{Board, read_board};
 use board_report::{lines, report_line};
 use board_values::Report;
@@ -15,30 +16,10 @@ use tx_types::Line;
 
 /// A module's image: its start thread's priority, and the code behind its preamble.
 fn image(alloc: Global, priority: u32, code: &[u32]) -> Result<Vec<u8>, AllocError> {
-    let size = 128 + 4 * (code.len() % 64) as u32;
-    let head = [
-        0x4D4F_4455,
-        6,
-        0,
-        32,
-        1,
-        3,
-        128,
-        128,
-        0,
-        priority,
-        256,
-        0,
-        0,
-        0,
-        size,
-        64,
-    ];
-    let mut bytes = Vec::new(alloc);
-    for word in head.iter().chain(&[0; 16]).chain(code) {
-        bytes.extend_from_slice(&word.to_le_bytes())?;
-    }
-    Ok(bytes)
+    let mut head = HEAD;
+    head[9] = priority;
+    head[14] = 128 + 4 * (code.len() % 64) as u32;
+    samples::image(alloc, head, code)
 }
 
 /// The text of a report.

@@ -2,7 +2,7 @@
 //!
 //! The read and the write behind the last that is due are to fail, which shows that none is made.
 use crate::samples::{HEAD, image, owned};
-use crate::{MemFiles, MemSink, Status, board_still};
+use board_run::{MemFiles, MemSink, Status, board_still};
 use std::alloc::Global;
 use std::test::Fail;
 

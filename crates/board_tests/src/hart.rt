@@ -1,9 +1,8 @@
 //! Worked runs of `hart` from the words to the bytes, and each other way in which a call ends.
 //!
 //! The read and the write behind the last that is due are to fail, which shows that none is made.
-use super::board_still;
 use crate::samples::{HEAD, image, owned};
-use crate::{MemFiles, MemSink, Status};
+use board_run::{MemFiles, MemSink, Status, board_still};
 use std::alloc::Global;
 use std::test::Fail;
 

@@ -1,7 +1,7 @@
 //! Files in memory, read through the trait: fronts, names that aren't held, and reads that are to fail.
 ghost use Rattle.std.specs.Prelude.{◌^◌, ◌<◌};
 
-use super::{Files, MemFiles, ReadErr};
+use board_run::{Files, MemFiles, ReadErr};
 use std::alloc::Global;
 use std::test::Fail;
 

@@ -1,6 +1,6 @@
 //! One module's code and data, each access at their edges.
 
-use crate::GuardBus;
+use board_core::GuardBus;
 use flat_ram::Ram;
 use region_guard::{Guard, RAM_BASE, Region, Rights};
 use rv_core::{Bus, Cause};

@@ -1,6 +1,6 @@
 //! Boards with the images of their modules: where these lie, and each refusal in its order.
 use crate::samples::{HEAD, image, owned};
-use crate::{MemFiles, MemSink, Status, board_still};
+use board_run::{MemFiles, MemSink, Status, board_still};
 use std::alloc::{AllocError, Global};
 use std::test::Fail;
 

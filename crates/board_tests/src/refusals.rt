@@ -1,6 +1,6 @@
 //! The line of each refusal.
-use super::Refusal;
 use board_file::Path;
+use board_run::Refusal;
 use module_preamble::PreErr;
 use std::alloc::{AllocError, Global};
 use std::test::Fail;

@@ -1,5 +1,5 @@
 //! Sinks, written through the trait: pieces whole, fronts of the pieces whose writes are to fail.
-use super::{MemSink, Sink, SureSink, WriteErr};
+use board_run::{MemSink, Sink, SureSink, WriteErr};
 use std::test::Fail;
 
 fn write_through<S: Sink>(sink: &mut S, piece: &str) -> Result<(), WriteErr> {

@@ -1,10 +1,10 @@
 //! The words of a command line, each list with the command that it asks for.
-use super::{Command, command_of, number};
 use crate::samples::owned;
+use board_run::{Command, command_of};
 use std::test::Fail;
 
 #[test]
-fn numbers_are_decimal_texts(rt: HostRuntime) {
+fn numbers_are_decimal_texts(rt: HostRuntime) -> Result<(), Fail> {
     let words = [
         ("0", Some(0)),
         ("7", Some(7)),
@@ -21,8 +21,11 @@ fn numbers_are_decimal_texts(rt: HostRuntime) {
         ("10000000000", None),
     ];
     for (word, want) in words {
-        assert_eq!(rt; number(word, 100_000_000), want, "{word:?}");
+        let texts = owned(rt.alloc(), &["hart", "p", word])?;
+        let command = want.map(|most| Command::Hart { image: "p", most });
+        assert_eq!(rt; command_of(&texts), command, "{word:?}");
     }
+    Ok(())
 }
 
 #[test]

@@ -1,3 +1,0 @@
-//! Each file tests one room.
-mod bus;
-mod sessions;
