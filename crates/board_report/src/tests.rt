@@ -1,13 +1,14 @@
 //! Whole reports, each line worked by hand.
-ghost use Rattle.std.specs.Prelude.{◌≡◌, ◌≤◌, ◌<◌, All, IfOk, length};
+ghost use Rattle.std.specs.Prelude.{◌≡◌, ◌≤◌, All, IsTrue, length};
 ghost use Rattle.board_report.specs.Printable.{IsNumbers, IsPrintable};
 
 use crate::{lines, report_line};
 use board_values::{
-    DeviceRow, FaultRow, ModuleRow, Nums, ObjectRow, ObjectRows, Report, Rows, ShowRow, ThreadRow,
-    Totals,
+    DeviceRow, DeviceRows, FaultRow, ModuleRow, ModuleRows, Nums, ObjectRow, ObjectRows, Report,
+    Rows, ShowRow, ShowRows, ThreadRow, ThreadRows, Totals,
 };
 use std::alloc::{AllocError, Global};
+use std::process::Abort;
 use std::test::Fail;
 use tx_types::{Line, Name};
 
@@ -49,35 +50,27 @@ end
 ";
 
 /// A name of the most bytes.
-const LONGEST: &[u8; 31] = b"a-name-of-exactly-31-bytes-abcd";
+const LONGEST: &[u8] = b"a-name-of-exactly-31-bytes-abcd";
 
 /// A list of these items.
-fn rows<T: Copy>(alloc: Global, items: &[T]) -> Result<Rows<T>, AllocError>
-    ensures { IfOk result (λ r. r ≡ items.now) }
-{
+fn rows<T: Copy>(alloc: Global, items: &[T]) -> Result<Rows<T>, AllocError> {
     Ok(Rows::new(Vec::from_slice(alloc, items)?))
 }
 
-/// The text of a report, its lines one after the other.
-fn text_of(alloc: Global, r: &Report) -> Result<String, AllocError>
-    requires { IsPrintable r.now }
-{
-    let mut text = String::new(alloc);
-    let mut line = Line::new();
-    for i in 0..lines(r) {
-        report_line(r, i, &mut line);
-        text.push_str(line.as_str())?;
+/// The name of up to 31 bytes, and none of more.
+fn name(bytes: &[u8]) -> Name {
+    if bytes.len() <= 31 {
+        Name::from_bytes(bytes)
+    } else {
+        Name::empty()
     }
-    Ok(text)
 }
 
-fn module(module: u8, name: &[u8], counts: [u32; 3], fault: Option<FaultRow>) -> ModuleRow
-    requires { length name.now ≤ 31 }
-{
+fn module(module: u8, bytes: &[u8], counts: [u32; 3], fault: Option<FaultRow>) -> ModuleRow {
     let [state, queued, dropped] = counts;
     ModuleRow {
         module,
-        name: Name::from_bytes(name),
+        name: name(bytes),
         state,
         queued,
         dropped,
@@ -85,28 +78,31 @@ fn module(module: u8, name: &[u8], counts: [u32; 3], fault: Option<FaultRow>) ->
     }
 }
 
-fn device(device: u8, name: &[u8], taken: u32, last: u32) -> DeviceRow
-    requires { length name.now ≤ 31 }
-{
+fn device(device: u8, bytes: &[u8], taken: u32, last: u32) -> DeviceRow {
     DeviceRow {
         device,
-        name: Name::from_bytes(name),
+        name: name(bytes),
         taken,
         last,
     }
 }
 
+fn show(alloc: Global, show: u8, cells: &[Option<u32>]) -> Result<ShowRow, AllocError> {
+    Ok(ShowRow {
+        show,
+        cells: rows(alloc, cells)?,
+    })
+}
+
 /// A thread that waits for a callback.
-fn waiting_thread(alloc: Global) -> Result<ThreadRow, AllocError>
-    ensures { IfOk result (λ t. length t.regs ≡ 31) }
-{
+fn waiting_thread(alloc: Global) -> Result<ThreadRow, AllocError> {
     let mut regs = [0; 31];
     regs[1] = 0x8000_01E0;
     regs[30] = 0xFFFF_FFFF;
     Ok(ThreadRow {
         thread: 0,
         module: 0,
-        name: Name::from_bytes(b"start"),
+        name: name(b"start"),
         state: 5,
         priority: 4,
         effective_priority: 4,
@@ -120,13 +116,11 @@ fn waiting_thread(alloc: Global) -> Result<ThreadRow, AllocError>
 }
 
 /// A thread whose numbers in effect aren't those that its module set, in the middle of its slice.
-fn raised_thread(alloc: Global) -> Result<ThreadRow, AllocError>
-    ensures { IfOk result (λ t. length t.regs ≡ 31) }
-{
+fn raised_thread(alloc: Global) -> Result<ThreadRow, AllocError> {
     Ok(ThreadRow {
         thread: 12,
         module: 3,
-        name: Name::from_bytes(b"\x7e\x7f \x21\x20\xff"),
+        name: name(b"\x7e\x7f \x21\x20\xff"),
         state: 13,
         priority: 20,
         effective_priority: 5,
@@ -135,22 +129,22 @@ fn raised_thread(alloc: Global) -> Result<ThreadRow, AllocError>
         slice: 7,
         remaining: 3,
         pc: 0xABCD_EF00,
-        regs: rows(alloc, &[0x1234_5678; 31])?,
+        regs: Rows::new(vec![in alloc; 0x1234_5678; 31]?),
     })
 }
 
-/// An object of a module, with three numbers by its kind and the threads that wait for it.
-fn object(at: (u16, u8), kind: u32, name: &[u8], numbers: [u32; 3], waits: Nums) -> ObjectRow
-    requires { length name.now ≤ 31 }
-    ensures { result.waits ≡ waits }
-{
-    let (object, module) = at;
-    let [a, b, c] = numbers;
+/// An object: its number and module, its kind and name, three numbers by its kind, and the threads
+/// that wait for it.
+type Object<'a> = ((u16, u8), u32, &'a [u8], [u32; 3], &'a [u16]);
+
+/// The row of an object.
+fn object(o: &Object<'_>, waits: Nums) -> ObjectRow {
+    let ((object, module), kind, bytes, [a, b, c], _) = *o;
     ObjectRow {
         object,
         module,
         kind,
-        name: Name::from_bytes(name),
+        name: name(bytes),
         a,
         b,
         c,
@@ -158,76 +152,95 @@ fn object(at: (u16, u8), kind: u32, name: &[u8], numbers: [u32; 3], waits: Nums)
     }
 }
 
-/// As many numbers as a list may have, each of the most digits.
-fn full(alloc: Global) -> Result<Nums, AllocError>
-    ensures { IfOk result IsNumbers }
-{
-    Ok(Rows::new(vec![in alloc; 255u16; 256]?))
+/// The rows of objects.
+fn object_rows(alloc: Global, objects: &[Object<'_>]) -> Result<ObjectRows, AllocError> {
+    let mut list = Vec::new(alloc);
+    for o in objects {
+        let waits = rows(alloc, o.4)?;
+        list.push(object(o, waits))?;
+    }
+    Ok(Rows::new(list))
 }
 
-/// One object of each kind.
-fn objects(alloc: Global) -> Result<ObjectRows, AllocError>
-    ensures few { IfOk result (λ r. length r ≤ 256) }
-    ensures waits { IfOk result (All (λ o. IsNumbers o.waits)) }
-{
-    Ok(Rows::new(vec![in alloc;
-        object((1, 0), 2, b"mail", [2, 14, 4], rows(alloc, &[])?),
-        object((2, 0), 3, b"free", [0, 0, 0], rows(alloc, &[7, 8])?),
-        object((3, 1), 4, b"", [3, 12, 1], rows(alloc, &[9])?),
-        object((4, 1), 5, b"alarm", [0x8000_0001, 0, 0], rows(alloc, &[])?),
-        object((10, 2), 6, b"heap", [48, 2, 0], rows(alloc, &[0, 10, 255])?),
-        object((11, 2), 7, b"blocks", [5, 6, 0], rows(alloc, &[])?),
-        object(
-            (255, 15),
-            8,
-            LONGEST,
-            [1, 0, 0xFFFF_FFFF],
-            rows(alloc, &[])?
-        ),
-    ]?))
-}
-
-fn show(alloc: Global, show: u8, cells: &[Option<u32>]) -> Result<ShowRow, AllocError>
-    ensures { IfOk result (λ s. s.cells ≡ cells.now) }
-{
-    Ok(ShowRow {
-        show,
-        cells: rows(alloc, cells)?,
-    })
-}
-
-fn idle(alloc: Global) -> Result<Report, AllocError>
-    ensures { IfOk result IsPrintable }
-{
-    Ok(Report {
-        steps: 20_000,
-        irqs: 155,
-        ticks: 150,
-        clock: 150,
+/// A report with no counts and no rows.
+fn blank(alloc: Global) -> Report {
+    Report {
+        steps: 0,
+        irqs: 0,
+        ticks: 0,
+        clock: 0,
         running: None,
-        held: rows(alloc, &[])?,
-        ready: rows(alloc, &[])?,
+        held: Rows::new(Vec::new(alloc)),
+        ready: Rows::new(Vec::new(alloc)),
         totals: Totals {
-            begun: 23,
-            satisfied: 5,
-            timed_out: 15,
+            begun: 0,
+            satisfied: 0,
+            timed_out: 0,
             aborted: 0,
             deleted: 0,
             gone: 0,
         },
-        modules: Rows::new(vec![in alloc; module(0, b"sensor", [1, 0, 0], None)]?),
-        threads: Rows::new(vec![in alloc; waiting_thread(alloc)?]?),
-        objects: Rows::new(vec![in alloc;
-            object((3, 0), 2, b"uart", [0, 16, 1], rows(alloc, &[0])?),
-        ]?),
-        devices: Rows::new(vec![in alloc; device(1, b"uart", 3, 0)]?),
-        shows: Rows::new(vec![in alloc; show(alloc, 0, &[Some(0x1C)])?]?),
-    })
+        modules: Rows::new(Vec::new(alloc)),
+        threads: Rows::new(Vec::new(alloc)),
+        objects: Rows::new(Vec::new(alloc)),
+        devices: Rows::new(Vec::new(alloc)),
+        shows: Rows::new(Vec::new(alloc)),
+    }
 }
 
-fn busy(alloc: Global) -> Result<Report, AllocError>
-    ensures { IfOk result IsPrintable }
-{
+/// The counts of a board where no thread is ready.
+fn idle_counts(r: &mut Report) {
+    r.steps = 20_000;
+    r.irqs = 155;
+    r.ticks = 150;
+    r.clock = 150;
+    r.totals = Totals {
+        begun: 23,
+        satisfied: 5,
+        timed_out: 15,
+        aborted: 0,
+        deleted: 0,
+        gone: 0,
+    };
+}
+
+/// The rows of a board where no thread is ready.
+fn idle_rows(alloc: Global, r: &mut Report) -> Result<(), AllocError> {
+    let uart = [((3, 0), 2, b"uart".as_slice(), [0, 16, 1], [0].as_slice())];
+    r.modules = Rows::new(vec![in alloc; module(0, b"sensor", [1, 0, 0], None)]?);
+    r.threads = Rows::new(vec![in alloc; waiting_thread(alloc)?]?);
+    r.objects = object_rows(alloc, &uart)?;
+    r.devices = Rows::new(vec![in alloc; device(1, b"uart", 3, 0)]?);
+    r.shows = Rows::new(vec![in alloc; show(alloc, 0, &[Some(0x1C)])?]?);
+    Ok(())
+}
+
+fn idle(alloc: Global) -> Result<Report, AllocError> {
+    let mut r = blank(alloc);
+    idle_counts(&mut r);
+    idle_rows(alloc, &mut r)?;
+    Ok(r)
+}
+
+/// The counts of a board where a thread runs.
+fn busy_counts(r: &mut Report) {
+    r.steps = 0xFFFF_FFFF;
+    r.irqs = 0;
+    r.ticks = 9;
+    r.clock = 10;
+    r.running = Some(12);
+    r.totals = Totals {
+        begun: u64::MAX,
+        satisfied: 1,
+        timed_out: 2,
+        aborted: 3,
+        deleted: 4,
+        gone: 5,
+    };
+}
+
+/// A module that has faulted, and one that is loaded.
+fn busy_modules(alloc: Global) -> Result<ModuleRows, AllocError> {
     let fault = FaultRow {
         thread: 7,
         cause: 6,
@@ -235,83 +248,187 @@ fn busy(alloc: Global) -> Result<Report, AllocError>
     };
     let faulted = module(3, b"", [3, 64, 0xFFFF_FFFF], Some(fault));
     let loaded = module(15, b"\x00z", [0, 1, 2], None);
+    Ok(Rows::new(vec![in alloc; faulted, loaded]?))
+}
+
+const BUSY_OBJECTS: [Object<'static>; 2] = [
+    ((254, 15), 4, b"", [2, 12, 1], &[]),
+    ((255, 0), 7, LONGEST, [1, 2, 0xFFFF_FFFF], &[0, 10, 255]),
+];
+
+fn busy_devices(alloc: Global) -> Result<DeviceRows, AllocError> {
+    let unnamed = device(0, b"", 0xFFFF_FFFF, 0x1A);
+    let untaken = device(15, b"d", 0, 0xFF);
+    Ok(Rows::new(vec![in alloc; unnamed, untaken]?))
+}
+
+fn busy_shows(alloc: Global) -> Result<ShowRows, AllocError> {
     let dark = show(alloc, 15, &[None, Some(0), None])?;
     let empty = show(alloc, 1, &[])?;
-    Ok(Report {
-        steps: 0xFFFF_FFFF,
-        irqs: 0,
-        ticks: 9,
-        clock: 10,
-        running: Some(12),
-        held: rows(alloc, &[3, 255])?,
-        ready: rows(alloc, &[12, 3, 255])?,
-        totals: Totals {
-            begun: u64::MAX,
-            satisfied: 1,
-            timed_out: 2,
-            aborted: 3,
-            deleted: 4,
-            gone: 5,
-        },
-        modules: Rows::new(vec![in alloc; faulted, loaded]?),
-        threads: Rows::new(vec![in alloc; raised_thread(alloc)?]?),
-        objects: Rows::new(vec![in alloc;
-            object((254, 15), 4, b"", [2, 12, 1], rows(alloc, &[])?),
-            object(
-                (255, 0),
-                7,
-                LONGEST,
-                [1, 2, 0xFFFF_FFFF],
-                rows(alloc, &[0, 10, 255])?
-            ),
-        ]?),
-        devices: Rows::new(vec![in alloc;
-            device(0, b"", 0xFFFF_FFFF, 0x1A),
-            device(15, b"d", 0, 0xFF),
-        ]?),
-        shows: Rows::new(vec![in alloc; dark, empty]?),
-    })
+    Ok(Rows::new(vec![in alloc; dark, empty]?))
+}
+
+/// The scheduler, the modules and their threads of a board where a thread runs.
+fn busy_threads(alloc: Global, r: &mut Report) -> Result<(), AllocError> {
+    r.held = rows(alloc, &[3, 255])?;
+    r.ready = rows(alloc, &[12, 3, 255])?;
+    r.modules = busy_modules(alloc)?;
+    r.threads = Rows::new(vec![in alloc; raised_thread(alloc)?]?);
+    Ok(())
+}
+
+/// The rows of a board where a thread runs.
+fn busy_rows(alloc: Global, r: &mut Report) -> Result<(), AllocError> {
+    busy_threads(alloc, r)?;
+    r.objects = object_rows(alloc, &BUSY_OBJECTS)?;
+    r.devices = busy_devices(alloc)?;
+    r.shows = busy_shows(alloc)?;
+    Ok(())
+}
+
+fn busy(alloc: Global) -> Result<Report, AllocError> {
+    let mut r = blank(alloc);
+    busy_counts(&mut r);
+    busy_rows(alloc, &mut r)?;
+    Ok(r)
+}
+
+/// Whether there are 256 numbers at most, all below 256.
+fn are_numbers(numbers: &Nums) -> bool
+    ensures { IsTrue result → IsNumbers numbers.now }
+{
+    let numbers = numbers.as_slice();
+    numbers.len() <= 256 && numbers.iter().all(|n| *n < 256)
+}
+
+/// Whether there are 256 threads at most, each with 31 registers.
+fn are_threads(threads: &ThreadRows) -> bool
+    ensures few { IsTrue result → length threads.now ≤ 256 }
+    ensures regs { IsTrue result → All (λ t. length t.regs ≡ 31) threads.now }
+{
+    let threads = threads.as_slice();
+    threads.len() <= 256 && threads.iter().all(|t| t.regs.as_slice().len() == 31)
+}
+
+/// Whether there are 256 objects at most, for which threads wait as many as a line may name.
+fn are_objects(objects: &ObjectRows) -> bool
+    ensures few { IsTrue result → length objects.now ≤ 256 }
+    ensures waits { IsTrue result → All (λ o. IsNumbers o.waits) objects.now }
+{
+    let objects = objects.as_slice();
+    objects.len() <= 256 && objects.iter().all(|o| are_numbers(&o.waits))
+}
+
+/// Whether there are 256 shows at most, each of 64 words at most.
+fn are_shows(shows: &ShowRows) -> bool
+    ensures few { IsTrue result → length shows.now ≤ 256 }
+    ensures cells { IsTrue result → All (λ s. length s.cells ≤ 64) shows.now }
+{
+    let shows = shows.as_slice();
+    shows.len() <= 256 && shows.iter().all(|s| s.cells.as_slice().len() <= 64)
+}
+
+/// Whether each line of a report fits its room.
+fn is_printable(r: &Report) -> bool
+    ensures { IsTrue result → IsPrintable r.now }
+{
+    are_numbers(&r.held)
+        && are_numbers(&r.ready)
+        && r.modules.as_slice().len() <= 256
+        && are_threads(&r.threads)
+        && are_objects(&r.objects)
+        && r.devices.as_slice().len() <= 256
+        && are_shows(&r.shows)
+}
+
+/// The line of a report at a place; empty where there is none.
+fn line_of(r: &Report, i: u32) -> Line
+    requires { IsPrintable r.now }
+{
+    let mut line = Line::new();
+    if i < lines(r) {
+        report_line(r, i, &mut line);
+    }
+    line
+}
+
+/// The text of a report, its lines one after the other.
+fn text_of(alloc: Global, r: &Report) -> Result<String, AllocError>
+    requires { IsPrintable r.now }
+{
+    let mut text = String::new(alloc);
+    for i in 0..lines(r) {
+        text.push_str(line_of(r, i).as_str())?;
+    }
+    Ok(text)
+}
+
+/// A report has so many lines, and this text.
+fn prints(rt: &impl Abort, alloc: Global, r: &Report, count: u32, text: &str) -> Result<(), Fail> {
+    assert!(rt; is_printable(r));
+    assert_eq!(rt; lines(r), count);
+    assert_eq!(rt; text_of(alloc, r)?.as_str(), text);
+    Ok(())
 }
 
 #[test]
 fn a_report_where_no_thread_is_ready(rt: HostRuntime) -> Result<(), Fail> {
     let r = idle(rt.alloc())?;
-    assert_eq!(rt; lines(&r), 13);
-    assert_eq!(rt; text_of(rt.alloc(), &r)?.as_str(), IDLE);
-    Ok(())
+    prints(&rt, rt.alloc(), &r, 13, IDLE)
 }
 
 #[test]
 fn a_report_with_a_fault_and_dots_and_dashes(rt: HostRuntime) -> Result<(), Fail> {
     let r = busy(rt.alloc())?;
-    assert_eq!(rt; lines(&r), 18);
-    assert_eq!(rt; text_of(rt.alloc(), &r)?.as_str(), BUSY);
-    Ok(())
+    prints(&rt, rt.alloc(), &r, 18, BUSY)
+}
+
+/// One object of each kind.
+const KINDS: [Object<'static>; 7] = [
+    ((1, 0), 2, b"mail", [2, 14, 4], &[]),
+    ((2, 0), 3, b"free", [0, 0, 0], &[7, 8]),
+    ((3, 1), 4, b"", [3, 12, 1], &[9]),
+    ((4, 1), 5, b"alarm", [0x8000_0001, 0, 0], &[]),
+    ((10, 2), 6, b"heap", [48, 2, 0], &[0, 10, 255]),
+    ((11, 2), 7, b"blocks", [5, 6, 0], &[]),
+    ((255, 15), 8, LONGEST, [1, 0, 0xFFFF_FFFF], &[]),
+];
+
+/// Their lines, and the first behind them.
+const KIND_LINES: [(u32, &str); 8] = [
+    (9, "object 1 module 0 kind 2 mail 2 14 4 waits\n"),
+    (10, "object 2 module 0 kind 3 free 0 0 0 waits 7 8\n"),
+    (11, "object 3 module 1 kind 4 - 3 12 1 waits 9\n"),
+    (12, "object 4 module 1 kind 5 alarm 2147483649 0 0 waits\n"),
+    (13, "object 10 module 2 kind 6 heap 48 2 0 waits 0 10 255\n"),
+    (14, "object 11 module 2 kind 7 blocks 5 6 0 waits\n"),
+    (
+        15,
+        "object 255 module 15 kind 8 a-name-of-exactly-31-bytes-abcd 1 0 4294967295 waits\n",
+    ),
+    (16, "device 1 uart taken 3 last 00\n"),
+];
+
+/// The report of an idle board, but with these objects.
+fn idle_with(alloc: Global, objects: &[Object<'_>]) -> Result<Report, AllocError> {
+    let objects = object_rows(alloc, objects)?;
+    let mut r = idle(alloc)?;
+    r.objects = objects;
+    Ok(r)
+}
+
+/// The lines at these places of a report.
+fn has_lines(rt: &impl Abort, r: &Report, texts: &[(u32, &str)]) {
+    assert!(rt; is_printable(r));
+    for (i, text) in texts {
+        assert_eq!(rt; line_of(r, *i).as_str(), *text);
+    }
 }
 
 #[test]
 fn a_line_for_each_kind_of_object(rt: HostRuntime) -> Result<(), Fail> {
-    let mut r = idle(rt.alloc())?;
-    r.objects = objects(rt.alloc())?;
-    for (i, text) in [
-        (9, "object 1 module 0 kind 2 mail 2 14 4 waits\n"),
-        (10, "object 2 module 0 kind 3 free 0 0 0 waits 7 8\n"),
-        (11, "object 3 module 1 kind 4 - 3 12 1 waits 9\n"),
-        (12, "object 4 module 1 kind 5 alarm 2147483649 0 0 waits\n"),
-        (13, "object 10 module 2 kind 6 heap 48 2 0 waits 0 10 255\n"),
-        (14, "object 11 module 2 kind 7 blocks 5 6 0 waits\n"),
-        (
-            15,
-            "object 255 module 15 kind 8 a-name-of-exactly-31-bytes-abcd 1 0 4294967295 waits\n",
-        ),
-        (16, "device 1 uart taken 3 last 00\n"),
-    ] {
-        let mut line = Line::new();
-        if i < lines(&r) {
-            report_line(&r, i, &mut line);
-        }
-        assert_eq!(rt; line.as_str(), text);
-    }
+    let r = idle_with(rt.alloc(), &KINDS)?;
+    has_lines(&rt, &r, &KIND_LINES);
     Ok(())
 }
 
@@ -325,31 +442,66 @@ fn repeated(alloc: Global, front: &str, piece: &str, times: u32) -> Result<Strin
     Ok(text)
 }
 
-#[test]
-fn the_longest_lines(rt: HostRuntime) -> Result<(), Fail> {
-    let alloc = rt.alloc();
-    let mut r = idle(alloc)?;
+/// As many numbers as a list may have, each of the most digits.
+fn full(alloc: Global) -> Result<Nums, AllocError> {
+    Ok(Rows::new(vec![in alloc; 255u16; 256]?))
+}
+
+/// Makes the lists of a report as long as they may be.
+fn lengthen(alloc: Global, r: &mut Report) -> Result<(), AllocError> {
     r.held = full(alloc)?;
     r.ready = full(alloc)?;
-    let most = object((255, 15), 8, LONGEST, [0xFFFF_FFFF; 3], full(alloc)?);
-    r.objects = Rows::new(vec![in alloc; most]?);
+    let most = ((255, 15), 8, LONGEST, [0xFFFF_FFFF; 3], [].as_slice());
+    r.objects = Rows::new(vec![in alloc; object(&most, full(alloc)?)]?);
     r.shows = Rows::new(vec![in alloc; show(alloc, 15, &[Some(0x89AB_CDEF); 64])?]?);
-    let front =
-        "object 255 module 15 kind 8 a-name-of-exactly-31-bytes-abcd 4294967295 4294967295 4294967295 waits";
-    for (i, front, piece, times) in [
-        (3, "held", " 255", 256),
-        (4, "ready", " 255", 256),
-        (9, front, " 255", 256),
-        (11, "show 15", " 89abcdef", 64),
-    ] {
-        let mut line = Line::new();
-        if i < lines(&r) {
-            report_line(&r, i, &mut line);
-        }
-        assert_eq!(rt;
-            line.as_str(),
-            repeated(alloc, front, piece, times)?.as_str()
-        );
+    Ok(())
+}
+
+fn longest(alloc: Global) -> Result<Report, AllocError> {
+    let mut r = idle(alloc)?;
+    lengthen(alloc, &mut r)?;
+    Ok(r)
+}
+
+/// The longest lines: where each stands, its front, and the piece that it repeats so many times.
+const LONGEST_LINES: [(u32, &str, &str, u32); 4] = [
+    (3, "held", " 255", 256),
+    (4, "ready", " 255", 256),
+    (
+        9,
+        "object 255 module 15 kind 8 a-name-of-exactly-31-bytes-abcd 4294967295 4294967295 4294967295 waits",
+        " 255",
+        256,
+    ),
+    (11, "show 15", " 89abcdef", 64),
+];
+
+/// A line of a report has this front, and a piece so many times.
+fn repeats(
+    rt: &impl Abort,
+    alloc: Global,
+    r: &Report,
+    wanted: (u32, &str, &str, u32),
+) -> Result<(), Fail>
+    requires { IsPrintable r.now }
+{
+    let (i, front, piece, times) = wanted;
+    let text = repeated(alloc, front, piece, times)?;
+    assert_eq!(rt; line_of(r, i).as_str(), text.as_str());
+    Ok(())
+}
+
+/// Each of the longest lines of a report is as its row says.
+fn has_longest_lines(rt: &impl Abort, alloc: Global, r: &Report) -> Result<(), Fail> {
+    assert!(rt; is_printable(r));
+    for wanted in LONGEST_LINES {
+        repeats(rt, alloc, r, wanted)?;
     }
     Ok(())
+}
+
+#[test]
+fn the_longest_lines(rt: HostRuntime) -> Result<(), Fail> {
+    let r = longest(rt.alloc())?;
+    has_longest_lines(&rt, rt.alloc(), &r)
 }
