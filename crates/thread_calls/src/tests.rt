@@ -4,4 +4,5 @@ mod board;
 mod create;
 mod numbers;
 mod objects;
+mod parts;
 mod states;

@@ -63,7 +63,7 @@ pub enum Service {
 }
 
 /// What happens on a board, and what it then shows.
-#[derive(Clone, Copy, Debug)]
+#[derive(Clone, Copy)]
 pub enum Step {
     /// The running thread calls a service with a0, a1, a2, and is answered so, or gets no answer.
     Call(Service, u32, u32, u32, Option<u32>),
@@ -93,6 +93,8 @@ pub enum Step {
     Numbers(u16, [u32; 6]),
     /// A thread's register.
     Register(u16, u8, u32),
+    /// All of a thread's registers.
+    Registers(u16, &'static [u32; 32]),
     /// A thread's program counter.
     Pc(u16, u32),
     /// A thread's registers are its opening ones.
@@ -217,6 +219,7 @@ fn shows(k: &Kernel, g: &Guard, step: Step) -> bool {
         }
         Step::Numbers(t, numbers) => numbers_of(k, number(t)) == numbers,
         Step::Register(t, r, value) => k.thread(number(t)).hart.get(r % 32) == value,
+        Step::Registers(t, x) => k.thread(number(t)).hart.x == *x,
         Step::Pc(t, pc) => k.thread(number(t)).hart.pc == pc,
         Step::Opening(t) => k.thread(number(t)).hart == k.thread(number(t)).opening,
         Step::Module(t, m) => k.module_of(number(t)).number() == m,
