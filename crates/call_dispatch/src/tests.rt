@@ -11,6 +11,7 @@ use region_guard::{Access, Guard, RAM_BASE, Region, Rights};
 use rv_core::Hart;
 use std::alloc::Global;
 use std::marker::Model;
+use std::process::Abort;
 use std::test::Fail;
 use thread_calls::laws::a_change_of_slots_keeps_sound;
 use thread_calls::resume_object;
@@ -199,8 +200,11 @@ fn place_thread(k: &mut Kernel, g: &mut Guard, o: ObjNo, priority: u16)
     resume_object(k, g, o);
 }
 
-/// A number, a0 to a2, a0 afterwards, and the first word of the data then.
-const CALLS: &[(u32, [u32; 3], u32, u32)] = &[
+/// A number, a0 to a2, a0 afterwards, and the first word of the data then; MAIN still runs.
+type Answered = (u32, [u32; 3], u32, u32);
+
+/// Slots are allocated and freed.
+const SLOTS: &[Answered] = &[
     (0x01, [0, DATA, 0], 0x08, 0),
     (0x01, [1, 0, 0], 0x03, 0),
     (0x01, [1, CODE, 0], 0xF4, 0),
@@ -209,11 +213,19 @@ const CALLS: &[(u32, [u32; 3], u32, u32)] = &[
     (0x02, [0x102, 0, 0], 0, 0x102),
     (0x02, [0x102, 0, 0], 0x03, 0x102),
     (0x01, [1, DATA, 0], 0, 0x202),
+];
+
+/// A thread is created, and objects are found by name.
+const OBJECTS: &[Answered] = &[
     (0x10, [MAIN, 0, BLOCK], 0x0E, 0x202),
     (0x10, [0x202, 0, BLOCK], 0, 0x202),
     (0x03, [9, 0, DATA], 0x08, 0x202),
     (0x03, [1, NAME, DATA], 0x0D, 0x202),
     (0x03, [1, 0, DATA], 0, MAIN),
+];
+
+/// A thread's numbers are told and changed.
+const NUMBERS: &[Answered] = &[
     (0x18, [0x102, DATA, 0], 0x0E, MAIN),
     (0x18, [0x202, DATA, 0], 0, 3),
     (0x19, [0x202, 16, DATA], 0x18, 3),
@@ -222,6 +234,10 @@ const CALLS: &[(u32, [u32; 3], u32, u32)] = &[
     (0x1A, [0x202, 14, DATA], 0, 15),
     (0x1B, [0x202, 9, DATA + 2], 0x03, 15),
     (0x1B, [0x202, 9, DATA], 0, 3),
+];
+
+/// A thread is resumed, suspended, deleted, terminated and reset.
+const STATES: &[Answered] = &[
     (0x14, [MAIN, 0, 0], 0x12, 3),
     (0x14, [0x202, 0, 0], 0, 3),
     (0x13, [0x103, 0, 0], 0x0E, 3),
@@ -233,46 +249,75 @@ const CALLS: &[(u32, [u32; 3], u32, u32)] = &[
     (0x1D, [0x202, 0, 0], 0, 3),
     (0x12, [0x202, 0, 0], 0, 3),
     (0x11, [0x202, 0, 0], 0, 3),
-    (0x16, [7, 8, 9], 0, 3),
-    (0x17, [7, 8, 9], MAIN, 3),
 ];
+
+/// The caller relinquishes, and is told its reference.
+const CALLER: &[Answered] = &[(0x16, [7, 8, 9], 0, 3), (0x17, [7, 8, 9], MAIN, 3)];
+
+/// Numbers that name no service.
+const NO_SERVICES: &[Answered] = &[
+    (0x00, [1, DATA, DATA], 0xFF, 0),
+    (0x05, [1, DATA, DATA], 0xFF, 0),
+    (0x0F, [1, DATA, DATA], 0xFF, 0),
+    (0x92, [1, DATA, DATA], 0xFF, 0),
+    (0xFF, [1, DATA, DATA], 0xFF, 0),
+    (0x117, [1, DATA, DATA], 0xFF, 0),
+    (u32::MAX, [1, DATA, DATA], 0xFF, 0),
+];
+
+/// Makes calls on a new board. Each has to go right, down to a table's last row.
+fn play(rt: &impl Abort, alloc: Global, tables: &[&[Answered]]) -> Result<(), Fail> {
+    let mut b = Board::new(alloc)?;
+    for (i, rows) in tables.iter().enumerate() {
+        assert_eq!(rt; plays(&mut b, rows), None, "table {i}");
+    }
+    Ok(())
+}
+
+/// The number of the first row that goes wrong.
+fn plays(b: &mut Board, rows: &[Answered]) -> Option<usize> {
+    for (i, (number, a, a0, word)) in rows.iter().enumerate() {
+        if b.call(*number, *a) != Some(*a0) || b.word() != Some(*word) || b.runs() != Some(0) {
+            return Some(i);
+        }
+    }
+    None
+}
 
 #[test]
 fn each_number_calls_its_service(rt: HostRuntime) -> Result<(), Fail> {
-    let mut b = Board::new(rt.alloc())?;
-    for (i, (number, a, a0, word)) in CALLS.iter().enumerate() {
-        assert_eq!(rt; b.call(*number, *a), Some(*a0), "call {i}");
-        assert_eq!(rt; b.word(), Some(*word), "call {i}");
-        assert_eq!(rt; b.runs(), Some(0), "call {i}");
-    }
-    Ok(())
+    play(&rt, rt.alloc(), &[SLOTS, OBJECTS, NUMBERS, STATES, CALLER])
 }
 
 #[test]
 fn a_number_without_a_row_is_refused(rt: HostRuntime) -> Result<(), Fail> {
-    let mut b = Board::new(rt.alloc())?;
-    for number in [0x00, 0x05, 0x0F, 0x92, 0xFF, 0x117, u32::MAX] {
-        assert_eq!(rt; b.call(number, [1, DATA, DATA]), Some(0xFF), "{number:x}");
-        assert_eq!(rt; b.word(), Some(0), "{number:x}");
-        assert_eq!(rt; b.runs(), Some(0), "{number:x}");
-    }
-    Ok(())
+    play(&rt, rt.alloc(), &[NO_SERVICES])
 }
 
-/// A caller that suspends itself is answered, though another thread runs; one that ends keeps its a0.
+/// A number, a0, a0 afterwards, and who runs then. A caller that suspends itself is answered, though
+/// another thread runs; one that ends keeps its a0; with none no call is made.
+const CALLERS: &[(u32, u32, Option<u32>, Option<u16>)] = &[
+    (0x13, MAIN, Some(0), Some(1)),
+    (0x17, 7, Some(OTHER), Some(1)),
+    (0x14, MAIN, Some(0), Some(0)),
+    (0x12, MAIN, Some(MAIN), Some(1)),
+    (0x1F, 7, Some(7), None),
+    (0x17, 7, None, None),
+];
+
+/// The number of the first row of those that goes wrong.
+fn wrong_caller(b: &mut Board) -> Option<usize> {
+    for (i, (number, a0, after, runs)) in CALLERS.iter().enumerate() {
+        if b.call(*number, [*a0, 8, 9]) != *after || b.runs() != *runs {
+            return Some(i);
+        }
+    }
+    None
+}
+
 #[test]
 fn callers_that_run_no_more(rt: HostRuntime) -> Result<(), Fail> {
     let mut b = Board::new(rt.alloc())?;
-    for (number, a0, after, runs) in [
-        (0x13, MAIN, 0, Some(1)),
-        (0x17, 7, OTHER, Some(1)),
-        (0x14, MAIN, 0, Some(0)),
-        (0x12, MAIN, MAIN, Some(1)),
-        (0x1F, 7, 7, None),
-    ] {
-        assert_eq!(rt; b.call(number, [a0, 8, 9]), Some(after), "{number:x}");
-        assert_eq!(rt; b.runs(), runs, "{number:x}");
-    }
-    assert_eq!(rt; b.call(0x17, [7, 8, 9]), None);
+    assert_eq!(rt; wrong_caller(&mut b), None);
     Ok(())
 }
