@@ -5,6 +5,7 @@ use flat_ram::Ram;
 use region_guard::{Guard, RAM_BASE, Region, Rights};
 use rv_core::{Bus, Cause};
 use std::alloc::Global;
+use std::process::Abort;
 use std::test::Fail;
 use tx_types::ModNo;
 
@@ -40,6 +41,16 @@ fn memory(alloc: Global) -> Result<Guard, Fail> {
     Ok(guard)
 }
 
+/// The address of a word, and what storing there answers.
+const STORES: [(u32, Result<(), Cause>); 6] = [
+    (0x8000_01DC, Ok(())),
+    (0x8000_01DD, Err(Cause::StoreMisaligned)),
+    (0x8000_01E0, Err(Cause::StoreOutside)),
+    (0x8000_00A0, Ok(())),
+    (0x8000_009C, Err(Cause::StoreOutside)),
+    (0x8000_0080, Err(Cause::StoreOutside)),
+];
+
 #[test]
 fn stores_at_the_edges_of_the_data(rt: HostRuntime) -> Result<(), Fail> {
     let mut guard = memory(rt.alloc())?;
@@ -47,19 +58,47 @@ fn stores_at_the_edges_of_the_data(rt: HostRuntime) -> Result<(), Fail> {
         guard: &mut guard,
         module: ModNo::new(0),
     };
-    for (a, answer) in [
-        (0x8000_01DC, Ok(())),
-        (0x8000_01DD, Err(Cause::StoreMisaligned)),
-        (0x8000_01E0, Err(Cause::StoreOutside)),
-        (0x8000_00A0, Ok(())),
-        (0x8000_009C, Err(Cause::StoreOutside)),
-        (0x8000_0080, Err(Cause::StoreOutside)),
-    ] {
+    for (a, answer) in STORES {
         assert_eq!(rt; bus.store(a, 4, 0x0403_0201), answer, "a word at {a:x}");
     }
     assert_eq!(rt; bus.load(0x8000_01DE, 2), Ok(0x0403));
     assert_eq!(rt; bus.load(0x8000_01D8, 4), Ok(0));
     Ok(())
+}
+
+/// The address of a word, and what fetching it and loading it answer.
+type Read = (u32, Result<u32, Cause>, Result<u32, Cause>);
+
+const OUTSIDE: [Read; 3] = [
+    (
+        0x8000_0084,
+        Err(Cause::FetchOutside),
+        Err(Cause::LoadOutside),
+    ),
+    (
+        0x7FFF_FFFC,
+        Err(Cause::FetchOutside),
+        Err(Cause::LoadOutside),
+    ),
+    (
+        0xFFFF_FFFC,
+        Err(Cause::FetchOutside),
+        Err(Cause::LoadOutside),
+    ),
+];
+
+const INSIDE: [Read; 3] = [
+    (0x8000_0000, Ok(0), Ok(0)),
+    (0x8000_0080, Ok(0), Ok(0)),
+    (0x8000_00A0, Err(Cause::FetchOutside), Ok(0)),
+];
+
+/// Fetching and loading a word answer as the row says.
+fn reads(rt: &impl Abort, bus: &GuardBus<'_>, row: &Read) {
+    let (a, fetched, loaded) = *row;
+    assert!(rt; a % 4 == 0);
+    assert_eq!(rt; bus.fetch(a), fetched, "the word at {a:x}");
+    assert_eq!(rt; bus.load(a, 4), loaded, "the word at {a:x}");
 }
 
 #[test]
@@ -69,29 +108,10 @@ fn reads_at_the_edges_of_the_code(rt: HostRuntime) -> Result<(), Fail> {
         guard: &mut guard,
         module: ModNo::new(0),
     };
-    for (a, fetched, loaded) in [
-        (0x8000_0000, Ok(0), Ok(0)),
-        (0x8000_0080, Ok(0), Ok(0)),
-        (
-            0x8000_0084,
-            Err(Cause::FetchOutside),
-            Err(Cause::LoadOutside),
-        ),
-        (
-            0x7FFF_FFFC,
-            Err(Cause::FetchOutside),
-            Err(Cause::LoadOutside),
-        ),
-        (0x8000_00A0, Err(Cause::FetchOutside), Ok(0)),
-        (
-            0xFFFF_FFFC,
-            Err(Cause::FetchOutside),
-            Err(Cause::LoadOutside),
-        ),
-    ] {
-        assert!(rt; a % 4 == 0);
-        assert_eq!(rt; bus.fetch(a), fetched, "the word at {a:x}");
-        assert_eq!(rt; bus.load(a, 4), loaded, "the word at {a:x}");
+    for rows in [&INSIDE, &OUTSIDE] {
+        for row in rows {
+            reads(&rt, &bus, row);
+        }
     }
     Ok(())
 }

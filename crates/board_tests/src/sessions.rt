@@ -11,6 +11,7 @@ use board_report::{lines, report_line};
 use board_values::Report;
 use event_log::{read_log, replay};
 use std::alloc::{AllocError, Global};
+use std::process::Abort;
 use std::test::Fail;
 use tx_types::Line;
 
@@ -56,6 +57,27 @@ fn session(alloc: Global, board: &str, images: &[Vec<u8>], log: &str) -> Result<
     reported(alloc, &board, images, log)
 }
 
+/// The images of one module's board.
+fn one(alloc: Global, code: &[u32]) -> Result<Vec<Vec<u8>>, AllocError> {
+    Ok(vec![in alloc; image(alloc, 10, code)?]?)
+}
+
+/// The report of a board after a log has these lines.
+fn reports(
+    rt: &impl Abort,
+    alloc: Global,
+    board: &str,
+    images: &[Vec<u8>],
+    log: &str,
+    lines: &[&str],
+) -> Result<(), Fail> {
+    let text = session(alloc, board, images, log)?;
+    for line in lines {
+        assert_eq!(rt; text.contains(line), true, "{line} in {text}");
+    }
+    Ok(())
+}
+
 /// One module, started at once.
 const ONE: &str = "ram = 1048576
 steps = 0
@@ -70,9 +92,14 @@ const P1: [u32; 1] = [0x0070_0293];
 
 #[test]
 fn one_module_runs_into_the_end_of_its_code(rt: HostRuntime) -> Result<(), Fail> {
-    let images = vec![in rt.alloc(); image(rt.alloc(), 10, &P1)?]?;
+    let images = one(rt.alloc(), &P1)?;
     let text = session(rt.alloc(), ONE, &images, "S 3\n")?;
-    let wanted = "report
+    assert_eq!(rt; text.as_str(), AFTER_3);
+    Ok(())
+}
+
+/// One step is made, and the next fetch is a fault.
+const AFTER_3: &str = "report
 events steps 3 irqs 0 ticks 0 clock 0
 running -
 held
@@ -82,9 +109,6 @@ module 0 one state 3 queued 0 dropped 0
 fault 0 thread 0 cause 1 pc 80000084
 end
 ";
-    assert_eq!(rt; text.as_str(), wanted);
-    Ok(())
-}
 
 /// Three modules; of the second and the third the report shows what they count.
 const THREE: &str = "ram = 1048576
@@ -122,76 +146,95 @@ const COUNTS: [u32; 6] = [
     0xFEDF_F06F,
 ];
 
+/// An instruction, a log in which it is executed, and the line of the fault.
+const FAULTS: [(u32, &str, &str); 8] = [
+    // JAL x0,2
+    (
+        0x0020_006F,
+        "S 35\n",
+        "fault 0 thread 0 cause 0 pc 80000080\n",
+    ),
+    // ADDI x5,x0,7, and then the end of the code
+    (
+        0x0070_0293,
+        "S 36\n",
+        "fault 0 thread 0 cause 1 pc 80000084\n",
+    ),
+    // no instruction
+    (
+        0x0000_0000,
+        "S 35\n",
+        "fault 0 thread 0 cause 2 pc 80000080\n",
+    ),
+    // EBREAK
+    (
+        0x0010_0073,
+        "S 35\n",
+        "fault 0 thread 0 cause 3 pc 80000080\n",
+    ),
+    // LW x5,1(x3)
+    (
+        0x0011_A283,
+        "S 35\n",
+        "fault 0 thread 0 cause 4 pc 80000080\n",
+    ),
+    // LW x5,0(x0)
+    (
+        0x0000_2283,
+        "S 35\n",
+        "fault 0 thread 0 cause 5 pc 80000080\n",
+    ),
+    // SW x5,1(x3)
+    (
+        0x0051_A0A3,
+        "S 35\n",
+        "fault 0 thread 0 cause 6 pc 80000080\n",
+    ),
+    // SW x5,0(x0)
+    (
+        0x0050_2023,
+        "S 35\n",
+        "fault 0 thread 0 cause 7 pc 80000080\n",
+    ),
+];
+
+/// What is left behind each fault.
+const LEFT: [&str; 7] = [
+    "running 1\n",
+    "ready 1 2\n",
+    "module 0 a state 3 queued 0 dropped 0\n",
+    "module 1 b state 1 queued 0 dropped 0\n",
+    "module 2 c state 1 queued 0 dropped 0\n",
+    "show 0 00000003\n",
+    "show 1 00000003\n",
+];
+
+/// The image of an instruction, beside two that count.
+fn beside_counts(alloc: Global, code: u32) -> Result<Vec<Vec<u8>>, AllocError> {
+    let mut images = Vec::new(alloc);
+    images.push(image(alloc, 5, &[code])?)?;
+    images.push(image(alloc, 10, &COUNTS)?)?;
+    images.push(image(alloc, 10, &COUNTS)?)?;
+    Ok(images)
+}
+
+/// The instruction's fault is reported, and what is left.
+fn halts_alone(
+    rt: &impl Abort,
+    alloc: Global,
+    code: u32,
+    log: &str,
+    fault: &str,
+) -> Result<(), Fail> {
+    let images = beside_counts(alloc, code)?;
+    reports(rt, alloc, THREE, &images, log, &[fault])?;
+    reports(rt, alloc, THREE, &images, log, &LEFT)
+}
+
 #[test]
 fn a_fault_of_each_cause_halts_its_module_alone(rt: HostRuntime) -> Result<(), Fail> {
-    for (code, log, fault) in [
-        // JAL x0,2
-        (
-            0x0020_006F,
-            "S 35\n",
-            "fault 0 thread 0 cause 0 pc 80000080\n",
-        ),
-        // ADDI x5,x0,7, and then the end of the code
-        (
-            0x0070_0293,
-            "S 36\n",
-            "fault 0 thread 0 cause 1 pc 80000084\n",
-        ),
-        // no instruction
-        (
-            0x0000_0000,
-            "S 35\n",
-            "fault 0 thread 0 cause 2 pc 80000080\n",
-        ),
-        // EBREAK
-        (
-            0x0010_0073,
-            "S 35\n",
-            "fault 0 thread 0 cause 3 pc 80000080\n",
-        ),
-        // LW x5,1(x3)
-        (
-            0x0011_A283,
-            "S 35\n",
-            "fault 0 thread 0 cause 4 pc 80000080\n",
-        ),
-        // LW x5,0(x0)
-        (
-            0x0000_2283,
-            "S 35\n",
-            "fault 0 thread 0 cause 5 pc 80000080\n",
-        ),
-        // SW x5,1(x3)
-        (
-            0x0051_A0A3,
-            "S 35\n",
-            "fault 0 thread 0 cause 6 pc 80000080\n",
-        ),
-        // SW x5,0(x0)
-        (
-            0x0050_2023,
-            "S 35\n",
-            "fault 0 thread 0 cause 7 pc 80000080\n",
-        ),
-    ] {
-        let images = vec![in rt.alloc();
-            image(rt.alloc(), 5, &[code])?,
-            image(rt.alloc(), 10, &COUNTS)?,
-            image(rt.alloc(), 10, &COUNTS)?,
-        ]?;
-        let text = session(rt.alloc(), THREE, &images, log)?;
-        for line in [
-            fault,
-            "running 1\n",
-            "ready 1 2\n",
-            "module 0 a state 3 queued 0 dropped 0\n",
-            "module 1 b state 1 queued 0 dropped 0\n",
-            "module 2 c state 1 queued 0 dropped 0\n",
-            "show 0 00000003\n",
-            "show 1 00000003\n",
-        ] {
-            assert_eq!(rt; text.contains(line), true, "{line} in {text}");
-        }
+    for (code, log, fault) in FAULTS {
+        halts_alone(&rt, rt.alloc(), code, log, fault)?;
     }
     Ok(())
 }
@@ -238,16 +281,13 @@ const CALLS: [u32; 12] = [
 
 #[test]
 fn calls_are_answered_in_a0(rt: HostRuntime) -> Result<(), Fail> {
-    let images = vec![in rt.alloc(); image(rt.alloc(), 10, &CALLS)?]?;
-    let text = session(rt.alloc(), ONE_WITH_DEVICES, &images, "S 13\n")?;
-    for line in [
+    let images = one(rt.alloc(), &CALLS)?;
+    let lines = [
         "running -\n",
         "thread 0 module 0 start state 1 priority 10 10 threshold 10 10 slice 0 0 pc 800000b0\n",
         "show 0 00000100 000000ff 0000000e\n",
-    ] {
-        assert_eq!(rt; text.contains(line), true, "{line} in {text}");
-    }
-    Ok(())
+    ];
+    reports(&rt, rt.alloc(), ONE_WITH_DEVICES, &images, "S 13\n", &lines)
 }
 
 /// A thread suspends itself: ADDI x17,x0,0x17; ECALL; ADDI x17,x0,0x13; ECALL; JAL x0,0.
@@ -259,55 +299,52 @@ const SUSPENDS: [u32; 5] = [
     0x0000_006F,
 ];
 
+/// A log, and lines of the report behind it.
+const RESUMED: [(&str, [&str; 3]); 3] = [
+    (
+        "S 4\n",
+        [
+            "running -\n",
+            "device 0 go taken 0 last 00\n",
+            "device 1 no taken 0 last 00\n",
+        ],
+    ),
+    (
+        "S 4\nI 0 00000000\n",
+        [
+            "running 0\n",
+            "device 0 go taken 1 last 00\n",
+            "device 1 no taken 0 last 00\n",
+        ],
+    ),
+    (
+        "S 5\nI 0 00000007\nI 0 00000000\nS 3\nI 1 ffffffff\n",
+        [
+            "running 0\n",
+            "device 0 go taken 2 last 12\n",
+            "device 1 no taken 1 last 0e\n",
+        ],
+    ),
+];
+
 #[test]
 fn a_device_resumes_a_thread_by_its_name(rt: HostRuntime) -> Result<(), Fail> {
-    for (log, wanted) in [
-        (
-            "S 4\n",
-            [
-                "running -\n",
-                "device 0 go taken 0 last 00\n",
-                "device 1 no taken 0 last 00\n",
-            ],
-        ),
-        (
-            "S 4\nI 0 00000000\n",
-            [
-                "running 0\n",
-                "device 0 go taken 1 last 00\n",
-                "device 1 no taken 0 last 00\n",
-            ],
-        ),
-        (
-            "S 5\nI 0 00000007\nI 0 00000000\nS 3\nI 1 ffffffff\n",
-            [
-                "running 0\n",
-                "device 0 go taken 2 last 12\n",
-                "device 1 no taken 1 last 0e\n",
-            ],
-        ),
-    ] {
-        let images = vec![in rt.alloc(); image(rt.alloc(), 10, &SUSPENDS)?]?;
-        let text = session(rt.alloc(), ONE_WITH_DEVICES, &images, log)?;
-        for line in wanted {
-            assert_eq!(rt; text.contains(line), true, "{line} in {text}");
-        }
+    let images = one(rt.alloc(), &SUSPENDS)?;
+    for (log, lines) in RESUMED {
+        reports(&rt, rt.alloc(), ONE_WITH_DEVICES, &images, log, &lines)?;
     }
     Ok(())
 }
 
 #[test]
 fn the_empty_log_leaves_the_booted_board(rt: HostRuntime) -> Result<(), Fail> {
-    let images = vec![in rt.alloc(); image(rt.alloc(), 10, &P1)?]?;
-    let text = session(rt.alloc(), ONE, &images, "")?;
-    for line in [
+    let images = one(rt.alloc(), &P1)?;
+    let lines = [
         "events steps 0 irqs 0 ticks 0 clock 0\n",
         "running 0\n",
         "ready 0\n",
         "module 0 one state 1 queued 0 dropped 0\n",
         "thread 0 module 0 start state 0 priority 10 10 threshold 10 10 slice 0 0 pc 80000080\n",
-    ] {
-        assert_eq!(rt; text.contains(line), true, "{line} in {text}");
-    }
-    Ok(())
+    ];
+    reports(&rt, rt.alloc(), ONE, &images, "", &lines)
 }
