@@ -1,5 +1,5 @@
 #!/usr/bin/env bash
-# Reads and prints again the longest logs that there are, by `txboard replay` on a board on which nothing
+# Reads and prints again logs of as many lines as there may be, by `txboard replay` on a board on which nothing
 # runs, and prints the megabytes of log in a second of processor time beside those of `wc` on the same file: the
 # best of some runs that take turns. What is printed must begin with the log itself.
 # A log has at most 65,536 interrupts, so one with a single step before each has a little over a megabyte;

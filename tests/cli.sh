@@ -203,6 +203,7 @@ a callback: lb past it|callback=80 callback_stack=40|04010283|0|fault 5|80000080
 a callback's stack of 41: the last word|callback=80 callback_stack=41|04c12283|1|fault 1|80000084|00000000
 a callback's stack of 41: sw past it|callback=80 callback_stack=41|04512823|0|fault 7|80000080|00000000
 no callback, and so no stack for it|callback_stack=40|00012283|0|fault 5|80000080|00000000
+a breakpoint: ebreak||00100073|0|fault 3|80000080|00000000
 a stack of 41: sw to its last word|start_stack=41|fe512e23|1|fault 1|80000084|00000000|80000130
 a stack of 41: lb past it|start_stack=41|00010283|0|fault 5|80000080|00000000|80000130
 most stack: last byte|callback=80 callback_stack=10000|000102b7 002282b3 fff28283|3|fault 1|8000008c|00000000
@@ -556,6 +557,8 @@ done
 expect 'words: a number of 100,000 digits' 1 "$usage" "$txboard" hart "$p1" "${long//a/1}"
 expect 'words: no text as a name' 1 "$usage" "$txboard" hart $'\xff' 1
 expect 'words: no text as a board' 1 "$usage" "$txboard" check $'\xff'
+expect "words: a program's name that is no text" 0 "$p1_text" \
+    bash -c 'exec -a "$1" "${@:2}"' - $'\xff' "$txboard" hart "$p1" 1
 expect 'words: no text behind the others' 1 "$usage" "$txboard" hart "$p1" 1 $'p1\xc3\x28'
 
 # ---- The wrapper: relative names are those of the caller, and words stay whole

@@ -1,10 +1,8 @@
 -- A board and its images, read one after the other.
-use Rattle.std.proofs.Common.{◌≡◌, ℕ, ◌≤◌, List, [], map, length, Option, Some, None, Result, Ok, Err, IfSome, All, Vec, refl, sym, subst, ap, ◌∙◌, arith}
-use Rattle.std.proofs.lemmas.List.{get_or-map, length-map}
+use Rattle.std.proofs.Common.{◌≡◌, ℕ, ◌≤◌, List, [], Option, Some, None, Result, Ok, Err, IfSome, refl, sym, subst, ap, ◌∙◌, arith}
 use Rattle.std.proofs.lemmas.Result.{err_from_is_err_and}
 use Rattle.std.specs.Option.{option_map}
 use Rattle.std.specs.Result.{IsErrAnd}
-use Rattle.std.specs.declared.alloc.Global.{Global}
 use Rattle.board_file.specs.declared.board.Board.{Board}
 use Rattle.board_file.specs.declared.board.BoardModule.{BoardModule}
 use Rattle.board_run.specs.Boards.{board_at, images_at, loaded_at}
@@ -51,11 +49,3 @@ pub images_none : (held : Option (List ℕ → Option (List ℕ))) (modules : Li
 unfolding images_at
 images_none None modules = tt
 images_none (Some at) modules = front_none (each (λ i m. image_at i m.image at) 0 modules)
-
--- what holds of the bytes of each holds of the bytes in the list
-pub contents_within : (most : ℕ) (vs : List (Vec ℕ Global)) (contents : List (List ℕ)) → map (λ v. v.items) vs ≡ contents → All (λ bytes. length bytes ≤ most) contents → All (λ v. length v.items ≤ most) vs
-contents_within most vs contents same all k d below =
-    let whole = subst (λ (bs : List (List ℕ)). All (λ bytes. length bytes ≤ most) bs) (sym same) all in
-    let many : length (map (λ (v : Vec ℕ Global). v.items) vs) ≡ length vs = simp length-map in
-    let here = whole k d.items (omega (arith, many)) in
-    subst (λ (bytes : List ℕ). length bytes ≤ most) (get_or-map (λ (v : Vec ℕ Global). v.items) vs k d d.items below) here

@@ -1,5 +1,5 @@
 -- A board and the images of its modules, by the bytes that are held under each name.
-use Rattle.std.specs.Prelude.{◌≡◌, ℕ, ◌≤◌, List, All, length, Option, Result, Ok}
+use Rattle.std.specs.Prelude.{◌≡◌, ℕ, List, length, Option, Result, Ok}
 use Rattle.board_file.specs.Answer.{board_in}
 use Rattle.board_file.specs.Rules.{IsBoard}
 use Rattle.board_file.specs.declared.board.Board.{Board}
@@ -28,8 +28,7 @@ loaded_at name at = do
   images ← images_at board.modules at
   Ok (record { board = board; images = images })
 
--- what holds of every board that was read: its rules, and an image that isn't too large for each module
+-- what holds of every board that was read: its rules, and an image for each module
 pub record IsLoaded (l : Loaded) : Type 0 where
   pub rules : IsBoard l.board
   pub count : length l.images ≡ length l.board.modules
-  pub within : All (λ image. length image ≤ 1048576) l.images

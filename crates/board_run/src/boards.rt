@@ -1,7 +1,7 @@
 //! A board and the images of its modules, read from their files.
 //!
 //! The board is read first, and then each image in the board's order; no preamble is looked at here.
-ghost use Rattle.std.specs.Prelude.{◌≡◌, ◌≤◌, length, map, All, IfOk};
+ghost use Rattle.std.specs.Prelude.{◌≡◌, ◌≤◌, length, IfOk};
 ghost use Rattle.std.specs.Option.{option_map};
 ghost use Rattle.board_file.specs.Answer.{board_in};
 ghost use Rattle.board_file.specs.Rules.{IsBoard};
@@ -12,7 +12,7 @@ ghost use Rattle.board_run.specs.Refused.{refused_board};
 
 use crate::files::Files;
 use crate::images::Images;
-use crate::reading::{MOST_IMAGE, file_of, image_of};
+use crate::reading::{file_of, image_of};
 use crate::refusal::{Refusal, Stop};
 use board_file::{Board, BoardErr, BoardModule, read_board};
 use std::alloc::Global;
@@ -64,7 +64,6 @@ fn images_of<F: Files>(
     ensures counted { F.faults files.old ≤ F.faults files.new }
     ensures images { Gives (λ i. i) (option_map (images_at modules.now) (F.held files.old))
         (Rose (F.faults files.old) (F.faults files.new)) result }
-    ensures within { IfOk result (λ i. All (λ image. length image ≤ MOST_IMAGE) i) }
     ensures count { IfOk result (λ i. length i ≡ length modules.now) }
 {
     let mut images = Vec::new(alloc);

@@ -1,5 +1,5 @@
 //! What `check` finds of a board: what each module wants of memory and where it lies, and the text.
-ghost use Rattle.std.specs.Prelude.{◌≡◌, ◌≤◌, ◌<◌, length, map, All, IfOk};
+ghost use Rattle.std.specs.Prelude.{◌≡◌, ◌≤◌, ◌<◌, length, map, IfOk};
 ghost use Rattle.std.specs.Option.{option_map};
 ghost use Rattle.board_run.specs.Boards.{IsLoaded};
 ghost use Rattle.board_run.specs.Check.{IsWhole, want_in, checked, checked_at, module_line, modules_text, check_text};
@@ -12,7 +12,6 @@ use crate::boards::{Loaded, load_board};
 use crate::files::Files;
 use crate::images::preamble_of;
 use crate::placing::placed;
-use crate::reading::MOST_IMAGE;
 use crate::refusal::Stop;
 use crate::sink::{Sink, WriteErr};
 use board_file::{Board, BoardModule, BoardModules};
@@ -33,7 +32,6 @@ pub struct Checked {
 /// What the module of an image wants of memory.
 #[tactic(auto, using(crate::proofs::Step::steps))]
 fn want_in(number: u8, image: &[u8]) -> Result<Want, Stop>
-    requires { length image.now ≤ MOST_IMAGE }
     ensures { GivesHere (λ w. w) (want_in number image.now) result }
 {
     let p = preamble_of(number, image)?;
@@ -42,8 +40,7 @@ fn want_in(number: u8, image: &[u8]) -> Result<Want, Stop>
 
 /// What the modules of images want of memory, in their order.
 fn wants_in(alloc: Global, images: &[Vec<u8>]) -> Result<Vec<Want>, Stop>
-    requires few { length images.now ≤ 16 }
-    requires within { All (λ v. length v.items ≤ MOST_IMAGE) images.now }
+    requires { length images.now ≤ 16 }
     ensures wants { GivesHere (λ v. v.items) (each want_in 0 (map (λ v. v.items) images.now)) result }
     ensures count { IfOk result (λ v. length v.items ≡ length images.now) }
 {

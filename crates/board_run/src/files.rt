@@ -23,10 +23,10 @@ pub enum ReadErr {
 
 /// Files that are read whole, by name.
 pub trait Files {
-    // the bytes held under each name, where they are told
+    /// The bytes held under each name, where they are told.
     ghost held: { Self → Option (List ℕ → Option (List ℕ)) };
 
-    // how many reads had a fault; it stands still at its type's end
+    /// How many reads had a fault; it stands still at its type's end.
     ghost faults: { Self → ℕ };
 
     /// The first `max + 1` bytes of the file `name`, or all of them where there are fewer; so more

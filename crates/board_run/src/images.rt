@@ -1,9 +1,8 @@
 //! The images of modules, which contracts see as lists of bytes, and their preambles.
-ghost use Rattle.std.specs.Prelude.{◌≡◌, ◌≤◌, length, IfOk};
+ghost use Rattle.std.specs.Prelude.{◌≡◌, IfOk};
 ghost use Rattle.module_preamble.specs.Preamble.{preamble, IsAccepted};
 ghost use Rattle.board_run.specs.Refused.{refused_image};
 
-use crate::reading::MOST_IMAGE;
 use crate::refusal::{Refusal, Stop};
 use module_preamble::Preamble;
 use std::marker::Model;
@@ -42,7 +41,6 @@ impl Images {
 
 /// The preamble of the image of a number, or its refusal.
 pub fn preamble_of(number: u8, image: &[u8]) -> Result<Preamble, Stop>
-    requires { length image.now ≤ MOST_IMAGE }
     ensures preamble { result ≡ refused_image number (preamble image.now) }
     ensures accepted { IfOk result (λ p. IsAccepted image.now p) }
 {

@@ -21,7 +21,7 @@ mod still;
 
 pub use command::{Command, command_of};
 pub use files::{Files, MemFiles, ReadErr};
-pub use refusal::{Refusal, Stop};
+pub use refusal::Refusal;
 pub use sink::{MemSink, Sink, SureSink, WriteErr};
 pub use status::Status;
 pub use still::board_still;

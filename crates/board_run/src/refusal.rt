@@ -78,7 +78,7 @@ impl<T: Drop> From<AllocFailed<T>> for Stop {
 
 impl Refusal {
     /// The line that is printed. It may be longer than a `Line`, as a path may be.
-    pub fn line(&self, alloc: Global) -> Result<String, AllocError>
+    pub fn line(&self, alloc: Global) -> Result<String, NoMemory>
         ensures { IfOk result (λ line. string_bytes line ≡ refusal_line self.now) }
     {
         let mut line = String::from_str(alloc, "refused ")?;

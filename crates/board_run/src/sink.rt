@@ -17,10 +17,10 @@ pub enum WriteErr {
 
 /// What takes the text that is written.
 pub trait Sink {
-    // the bytes written so far, where they are told
+    /// The bytes written so far, where they are told.
     ghost written: { Self → Option (List ℕ) };
 
-    // how many writes had a fault; it stands still at its type's end
+    /// How many writes had a fault; it stands still at its type's end.
     ghost faults: { Self → ℕ };
 
     /// Appends the piece whole. `Failed` comes only with a new fault, and then a front of the piece is

@@ -33,7 +33,7 @@ shifted_right_signed a n = word_of (int_div_euclid (int a) (pos (2 ^ (n % 32))))
 abbrev pub less_signed : ℕ → ℕ → Bool
 less_signed a b = int_lt (int a) (int b)
 
--- the high words of the products
+-- the low word of a product, and the high word by the signs of the factors
 abbrev pub product_low : ℕ → ℕ → ℕ
 product_low a b = a * b % 2 ^ 32
 

@@ -4,6 +4,7 @@ ghost use Rattle.std.specs.Prelude.{◌≡◌, ◌^◌, ◌<◌, ◌≤◌};
 ghost use Rattle.machine_words.specs.Bits.{signed};
 ghost use Rattle.rv_decode.specs.Fields.{opcode, rd, funct3, rs1, rs2, funct7, i_immediate, s_immediate, b_immediate, u_immediate, j_immediate};
 
+/// Bits 6 to 0: which group of instructions a word belongs to.
 #[inline]
 pub fn opcode(w: u32) -> u32
     ensures { result ≡ opcode w }
@@ -11,6 +12,7 @@ pub fn opcode(w: u32) -> u32
     w & 0x7F
 }
 
+/// Bits 11 to 7: the register that is written.
 #[inline]
 pub fn rd(w: u32) -> u8
     ensures { result ≡ rd w }
@@ -18,6 +20,7 @@ pub fn rd(w: u32) -> u8
     (w >> 7 & 0x1F) as u8
 }
 
+/// Bits 19 to 15: the first operand's register.
 #[inline]
 pub fn rs1(w: u32) -> u8
     ensures { result ≡ rs1 w }
@@ -25,6 +28,7 @@ pub fn rs1(w: u32) -> u8
     (w >> 15 & 0x1F) as u8
 }
 
+/// Bits 24 to 20: the second operand's register.
 #[inline]
 pub fn rs2(w: u32) -> u8
     ensures { result ≡ rs2 w }
@@ -32,6 +36,7 @@ pub fn rs2(w: u32) -> u8
     (w >> 20 & 0x1F) as u8
 }
 
+/// Bits 14 to 12: the instruction within its group.
 #[inline]
 pub fn funct3(w: u32) -> u32
     ensures { result ≡ funct3 w }
@@ -39,6 +44,7 @@ pub fn funct3(w: u32) -> u32
     w >> 12 & 7
 }
 
+/// Bits 31 to 25: the rest of what tells instructions apart.
 #[inline]
 pub fn funct7(w: u32) -> u32
     ensures { result ≡ funct7 w }
@@ -46,6 +52,7 @@ pub fn funct7(w: u32) -> u32
     w >> 25
 }
 
+/// The immediate of the I format: 12 bits, sign-extended.
 #[inline]
 pub fn i_immediate(w: u32) -> i32
     ensures { result ≡ i_immediate w }
@@ -53,6 +60,7 @@ pub fn i_immediate(w: u32) -> i32
     w.cast_signed() >> 20
 }
 
+/// The immediate of the S format: 12 bits in two parts, sign-extended.
 #[inline]
 pub fn s_immediate(w: u32) -> i32
     ensures { result ≡ s_immediate w }
@@ -60,6 +68,7 @@ pub fn s_immediate(w: u32) -> i32
     sign_extend(w >> 7 & 0x1F | (w >> 25) << 5, 12)
 }
 
+/// The offset of the B format: 13 bits, even, sign-extended.
 #[inline]
 pub fn b_immediate(w: u32) -> i32
     ensures { result ≡ b_immediate w }
@@ -68,6 +77,7 @@ pub fn b_immediate(w: u32) -> i32
     sign_extend(n, 13)
 }
 
+/// The immediate of the U format: the upper 20 bits, in their place.
 #[inline]
 pub fn u_immediate(w: u32) -> i32
     ensures { result ≡ u_immediate w }
@@ -75,6 +85,7 @@ pub fn u_immediate(w: u32) -> i32
     (w & 0xFFFF_F000).cast_signed()
 }
 
+/// The offset of the J format: 21 bits, even, sign-extended.
 #[inline]
 pub fn j_immediate(w: u32) -> i32
     ensures { result ≡ j_immediate w }

@@ -461,6 +461,22 @@ fn small_words(rt: HostRuntime) {
                 imm: -1997,
             },
         ),
+        (
+            0x0273_02B3,
+            Instr::Mul {
+                rd: 5,
+                rs1: 6,
+                rs2: 7,
+            },
+        ),
+        (
+            0x0273_42B3,
+            Instr::Div {
+                rd: 5,
+                rs1: 6,
+                rs2: 7,
+            },
+        ),
     ] {
         assert_eq!(rt; decode(word), Some(want), "at {word:x}");
     }

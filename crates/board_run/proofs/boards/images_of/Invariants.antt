@@ -1,4 +1,4 @@
-use Rattle.std.proofs.Common.{◌≡◌, ℕ, ◌≤◌, All, IfSome, Vec, drop, length, map, vec_len}
+use Rattle.std.proofs.Common.{◌≡◌, ℕ, ◌≤◌, IfSome, Vec, drop, map, vec_len}
 use Rattle.std.specs.declared.alloc.Global.{Global}
 use Rattle.board_run.specs.Boards.{images_at}
 use Rattle.board_run.specs.Held.{image_at}
@@ -12,6 +12,5 @@ invariant-loop-i g l = record {
   held : g.F.Files.held l.files ≡ g.F.Files.held l.fn.files;
   counted : g.F.Files.faults l.fn.files ≤ g.F.Files.faults l.files;
   due : IfSome (g.F.Files.held l.fn.files) (λ at. with_front (map (λ (v : Vec ℕ Global). v.items) l.images.items) (each (λ i m. image_at i m.image at) l.i (drop l.i l.modules)) ≡ images_at l.modules at);
-  within : All (λ (v : Vec ℕ Global). length v.items ≤ 1048576) l.images.items;
   count : vec_len l.images ≡ l.i;
 }
