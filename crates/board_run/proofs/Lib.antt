@@ -1,4 +1,5 @@
 pub mod Answering
+pub mod Booting
 pub mod ElementTexts
 pub mod Fronts
 pub mod Loading

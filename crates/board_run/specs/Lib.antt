@@ -10,6 +10,7 @@ pub mod Faults
 pub mod Files
 pub mod Hart
 pub mod Held
+pub mod Laws
 pub mod Placing
 pub mod Reading
 pub mod Refusal

@@ -11,6 +11,7 @@ mod command;
 mod files;
 mod hart;
 mod images;
+pub mod laws;
 mod placing;
 mod reading;
 mod refusal;
