@@ -1,5 +1,5 @@
 #!/usr/bin/env python3
-"""Writes the example images of this folder from their words."""
+"""Writes the smallest example images of this folder from their words."""
 import pathlib
 import struct
 
@@ -12,34 +12,10 @@ ADDI_X5_X0_7 = 0x00700293
 ECALL = 0x00000073
 BEQ_X0_X0_0 = 0x00000063
 
-# A meter: a word of its data is counted up, and another thread of its priority has its turn (thread_relinquish, 0x16).
-METER = [
-    0x0081A303,  # lw x6, 8(x3)
-    0x00130313,  # addi x6, x6, 1
-    0x0061A423,  # sw x6, 8(x3)
-    0x01600893,  # addi x17, x0, 0x16
-    ECALL,
-    0xFEDFF06F,  # jal x0, -20
-]
-
-# A radio: it does the same three times, and then stores beyond its data.
-RADIO = [
-    0x00300393,  # addi x7, x0, 3
-    0x0081A303,  # lw x6, 8(x3)
-    0x00130313,  # addi x6, x6, 1
-    0x0061A423,  # sw x6, 8(x3)
-    0x01600893,  # addi x17, x0, 0x16
-    ECALL,
-    0xFE7316E3,  # bne x6, x7, -20
-    0x00502023,  # sw x5, 0(x0)
-]
-
 IMAGES = {
     "p1.img": [ADDI_X5_X0_7],
     "p2.img": [ADDI_X5_X0_7, ECALL],
     "p2b.img": [ADDI_X5_X0_7, BEQ_X0_X0_0],
-    "meter.img": METER,
-    "radio.img": RADIO,
 }
 
 
