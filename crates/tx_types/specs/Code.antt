@@ -4,6 +4,9 @@ use Rattle.std.specs.Prelude.{ℕ}
 abbrev pub success : ℕ
 success = 0x00
 
+abbrev pub deleted : ℕ
+deleted = 0x01
+
 abbrev pub ptr_error : ℕ
 ptr_error = 0x03
 
@@ -22,9 +25,12 @@ thread_error = 0x0E
 abbrev pub priority_error : ℕ
 priority_error = 0x0F
 
--- also START_ERROR
 abbrev pub no_memory : ℕ
 no_memory = 0x10
+
+-- the number of NO_MEMORY too
+abbrev pub start_error : ℕ
+start_error = 0x10
 
 abbrev pub delete_error : ℕ
 delete_error = 0x11
@@ -44,8 +50,17 @@ thresh_error = 0x18
 abbrev pub suspend_lifted : ℕ
 suspend_lifted = 0x19
 
+abbrev pub wait_aborted : ℕ
+wait_aborted = 0x1A
+
+abbrev pub wait_abort_error : ℕ
+wait_abort_error = 0x1B
+
 abbrev pub not_done : ℕ
 not_done = 0x20
 
 abbrev pub invalid_memory : ℕ
 invalid_memory = 0xF4
+
+abbrev pub feature_not_enabled : ℕ
+feature_not_enabled = 0xFF

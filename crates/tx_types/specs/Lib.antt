@@ -1,5 +1,6 @@
 pub mod Code
 pub mod Kind
+pub mod Limits
 pub mod Line
 pub mod Reference
 pub mod State

@@ -23,6 +23,9 @@ impl Code {
     /// The call did what it was asked for.
     pub const SUCCESS: Code = Code(0x00);
 
+    /// The object that the thread waited for was removed.
+    pub const DELETED: Code = Code(0x01);
+
     /// A pointer is 0 or isn't aligned, or a name has no end.
     pub const PTR_ERROR: Code = Code(0x03);
 
@@ -41,8 +44,12 @@ impl Code {
     /// A priority is out of range.
     pub const PRIORITY_ERROR: Code = Code(0x0F);
 
-    /// No object slot is usable (NO_MEMORY); also START_ERROR.
+    /// No object slot is usable.
     pub const NO_MEMORY: Code = Code(0x10);
+
+    /// An automatic start is neither 0 nor 1, or the module isn't in a state for the call. It has the
+    /// number of `NO_MEMORY`.
+    pub const START_ERROR: Code = Code(0x10);
 
     /// The thread is neither completed nor terminated.
     pub const DELETE_ERROR: Code = Code(0x11);
@@ -62,11 +69,20 @@ impl Code {
     /// A suspension that was held is lifted.
     pub const SUSPEND_LIFTED: Code = Code(0x19);
 
+    /// The wait was given up by `thread_wait_abort`.
+    pub const WAIT_ABORTED: Code = Code(0x1A);
+
+    /// The thread doesn't wait.
+    pub const WAIT_ABORT_ERROR: Code = Code(0x1B);
+
     /// The thread is neither completed nor terminated.
     pub const NOT_DONE: Code = Code(0x20);
 
     /// A pointer leaves the regions of the caller's module.
     pub const INVALID_MEMORY: Code = Code(0xF4);
+
+    /// The number has no service.
+    pub const FEATURE_NOT_ENABLED: Code = Code(0xFF);
 
     /// The status of a number.
     pub fn new(number: u8) -> Code

@@ -1,6 +1,6 @@
-//! The numbers of kinds and states, a reference and its parts, and names, each worked by hand.
+//! The numbers of kinds and states, a reference and its parts, names and messages, each worked by hand.
 
-use crate::{Kind, Name, ObjNo, ObjRef, State};
+use crate::{Kind, Message, Name, ObjNo, ObjRef, State};
 use std::test::Fail;
 
 #[test]
@@ -74,5 +74,16 @@ fn names_are_the_same_by_their_bytes(rt: HostRuntime) -> Result<(), Fail> {
     assert!(rt; Name::empty().same(&Name::from_bytes(b"")));
     let longest = [255; 31];
     assert_eq!(rt; Name::from_bytes(&longest).bytes(), longest.as_slice());
+    Ok(())
+}
+
+#[test]
+fn a_message_keeps_its_words(rt: HostRuntime) -> Result<(), Fail> {
+    let mut message = Message::from_words(&[1, 0xFFFF_FFFF]);
+    message.push(0);
+    assert_eq!(rt; message.words(), [1, 0xFFFF_FFFF, 0].as_slice());
+    assert_eq!(rt; Message::empty().words().len(), 0);
+    let longest = [7; 16];
+    assert_eq!(rt; Message::from_words(&longest).words(), longest.as_slice());
     Ok(())
 }

@@ -1,0 +1,35 @@
+-- The limits of a board.
+use Rattle.std.specs.Prelude.{ℕ}
+
+-- slots of kernel objects, threads among them
+abbrev pub slot_limit : ℕ
+slot_limit = 256
+
+abbrev pub module_limit : ℕ
+module_limit = 16
+
+abbrev pub device_limit : ℕ
+device_limit = 16
+
+-- places in memory that a report shows
+abbrev pub show_limit : ℕ
+show_limit = 16
+
+-- priorities of threads (ThreadX User Guide, TX_MAX_PRIORITIES)
+abbrev pub priority_limit : ℕ
+priority_limit = 1024
+
+-- words of a message (ThreadX User Guide, `tx_queue_create`)
+abbrev pub message_limit : ℕ
+message_limit = 16
+
+-- steps and interrupts of a history
+abbrev pub step_limit : ℕ
+step_limit = 100000000
+
+abbrev pub interrupt_limit : ℕ
+interrupt_limit = 65536
+
+-- bytes of a printed line
+abbrev pub line_room : ℕ
+line_room = 1280
