@@ -119,7 +119,7 @@ open_steps [] = 0
 open_steps (Steps n ∷ es) = 1
 open_steps (Irq d w ∷ es) = 0
 
-irq_count-cons : (e : Entry) (es : List Entry) → irq_count (e ∷ es) ≡ cond (is_irq e) 1 0 + irq_count es
+pub irq_count-cons : (e : Entry) (es : List Entry) → irq_count (e ∷ es) ≡ cond (is_irq e) 1 0 + irq_count es
 irq_count-cons e es = sum_by-cons (λ x. cond (is_irq x) 1 0) e es
 
 few-by-front : (es : List Entry) → parted es ≡ true → length es ≤ 2 * irq_count es + open_steps es
@@ -173,7 +173,7 @@ history-irq es d w h small word less =
     history-append 16 es (Irq d w) h (small, word) (grind (arith, nat_tests))
 
 -- a list is empty or has a last entry
-by-last : (P : List Entry → Type 0) → P [] → ((front : List Entry) (e : Entry) → P (front ++ e ∷ [])) → (es : List Entry) → P es
+pub by-last : (P : List Entry → Type 0) → P [] → ((front : List Entry) (e : Entry) → P (front ++ e ∷ [])) → (es : List Entry) → P es
 by-last P none some [] = none
 by-last P none some (a ∷ es) = by-last (λ xs. P (a ∷ xs)) (some [] a) (λ front e. some (a ∷ front) e) es
 

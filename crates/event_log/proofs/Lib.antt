@@ -1,3 +1,4 @@
+pub mod Closed
 pub mod Digits
 pub mod Entries
 pub mod EventLists

@@ -1,4 +1,4 @@
--- The events of a history, one by one, and the words of each device.
+-- The events of a history, one by one, its interrupts, and the words of each device.
 use Rattle.std.specs.Prelude.{ℕ, ◌==◌, if◌then◌else◌, List, [], ◌∷◌, replicate}
 use Rattle.std.specs.List.{flat_map}
 use Rattle.event_log.specs.declared.entry.Entry.{Entry}
@@ -26,3 +26,12 @@ words_in device (entry.Irq d w) = if d == device then w ∷ [] else []
 -- the words of a device's interrupts, in order
 abbrev pub words_of : ℕ → List Entry → List ℕ
 words_of device es = flat_map (words_in device) es
+
+-- the device and the word of an entry that is an interrupt
+abbrev pub interrupts_in : Entry → List (ℕ × ℕ)
+interrupts_in (entry.Steps n) = []
+interrupts_in (entry.Irq d w) = (d, w) ∷ []
+
+-- the interrupts of a history, in order
+abbrev pub interrupts : List Entry → List (ℕ × ℕ)
+interrupts es = flat_map interrupts_in es

@@ -1,5 +1,5 @@
 -- A history: the steps and interrupts of a run, in order.
-use Rattle.std.specs.Prelude.{◌≡◌, ℕ, zero, suc, ◌+◌, ◌^◌, ◌<◌, ◌≤◌, ◌||◌, ◌&&◌, Bool, true, false, List, [], ◌∷◌, ◌++◌, All, count_by}
+use Rattle.std.specs.Prelude.{◌≡◌, ℕ, zero, suc, ◌+◌, ◌^◌, ◌<◌, ◌≤◌, ◌||◌, ◌&&◌, Bool, true, false, if◌then◌else◌, List, [], ◌∷◌, ◌++◌, All, count_by}
 use Rattle.std.specs.List.{sum_by}
 use Rattle.event_log.specs.declared.entry.Entry.{Entry}
 use Rattle.event_log.specs.declared.entry.Entry.TheVariants.{Steps, Irq}
@@ -76,3 +76,15 @@ abbrev pub last_steps : List Entry → ℕ
 last_steps [] = 0
 last_steps (e ∷ []) = steps_in e
 last_steps (e ∷ f ∷ es) = last_steps (f ∷ es)
+
+-- the entries that no step changes any more: all but a last one of steps
+abbrev pub closed : List Entry → List Entry
+closed [] = []
+closed (e ∷ []) = if is_irq e then e ∷ [] else []
+closed (e ∷ f ∷ es) = e ∷ closed (f ∷ es)
+
+-- the last entry, if it is of steps
+abbrev pub unclosed : List Entry → List Entry
+unclosed [] = []
+unclosed (e ∷ []) = if is_irq e then [] else e ∷ []
+unclosed (e ∷ f ∷ es) = unclosed (f ∷ es)

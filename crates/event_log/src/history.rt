@@ -2,8 +2,8 @@
 //!
 //! All its memory is taken by `reserve`; steps that follow one another are one entry, so there are at
 //! most twice as many entries as interrupts, and one more.
-ghost use Rattle.std.specs.Prelude.{◌≡◌, ◌+◌, ◌<◌, ◌≤◌, ◌↔◌, ◌∷◌, ◌++◌, [], IsTrue, length, slice_index_or, vec_capacity, IfOk};
-ghost use Rattle.event_log.specs.Log.{Log, IsEntry, IsHistory, IsSound, step_count, irq_count, last_steps, with_step, with_steps, with_irq};
+ghost use Rattle.std.specs.Prelude.{◌≡◌, ◌+◌, ◌<◌, ◌≤◌, ◌↔◌, ◌∷◌, ◌++◌, [], IsTrue, length, slice_index_or, vec_capacity, IfOk, MatchOption};
+ghost use Rattle.event_log.specs.Log.{Log, IsEntry, IsHistory, IsSound, step_count, irq_count, last_steps, with_step, with_steps, with_irq, closed};
 
 use crate::entry::Entry;
 use crate::{MOST_IRQS, MOST_STEPS};
@@ -150,6 +150,14 @@ impl History {
     {
         self.entries[i as usize]
     }
+
+    /// The last entry, if it is of steps: the one that a further step still changes.
+    pub fn open_entry(&self) -> Option<Entry>
+        ensures { MatchOption result (closed self.now.entries ≡ self.now.entries)
+            (λ e. self.now.entries ≡ closed self.now.entries ++ e ∷ []) }
+    {
+        open_entry(&self.entries)
+    }
 }
 
 /// Raises a last entry of steps by at least one, or opens one.
@@ -175,5 +183,17 @@ pub(crate) fn last_steps(entries: &[Entry]) -> u32
     match entries.last() {
         Some(e) => e.steps(),
         None => 0,
+    }
+}
+
+/// The last entry, if it is of steps.
+fn open_entry(entries: &[Entry]) -> Option<Entry>
+    ensures { MatchOption result (closed entries.now ≡ entries.now)
+        (λ e. entries.now ≡ closed entries.now ++ e ∷ []) }
+{
+    let last = *entries.last()?;
+    match last {
+        Entry::Steps(_) => Some(last),
+        Entry::Irq(..) => None,
     }
 }

@@ -1,7 +1,7 @@
 //! What holds of every log: each function's contract is a law.
-ghost use Rattle.std.specs.Prelude.{◌≡◌, ℕ, ◌+◌, List, [], ◌∷◌, ◌++◌, replicate};
-ghost use Rattle.event_log.specs.Events.{Step, Irq, events_of, words_in, words_of};
-ghost use Rattle.event_log.specs.Log.{step_count, irq_count, with_step, with_steps, with_irq};
+ghost use Rattle.std.specs.Prelude.{◌≡◌, ℕ, ◌+◌, ◌*◌, ◌≤◌, List, [], ◌∷◌, ◌++◌, length, replicate, true};
+ghost use Rattle.event_log.specs.Events.{Step, Irq, events_of, interrupts, words_in, words_of};
+ghost use Rattle.event_log.specs.Log.{step_count, irq_count, parted, closed, unclosed, with_step, with_steps, with_irq};
 ghost use Rattle.event_log.specs.Reading.{TextsApart, NoBadLine, OneBadLine, ReadsBack, SaysTrue};
 ghost use Rattle.event_log.specs.declared.entry.Entry.{Entry};
 ghost use Rattle.event_log.specs.declared.entry.Entry.TheVariants as entry;
@@ -17,8 +17,8 @@ pub fn each_history_has_one_text()
     ensures says_true { (devices : ℕ) → SaysTrue devices }
 {}
 
-/// A history with one step or one interrupt more is the same events and that one behind them, and
-/// counts one more.
+/// A history with one step or one interrupt more is the same events and that one after them, and
+/// counts one more. Its interrupts are as many as it counts.
 pub fn a_history_grows_by_one_event()
     ensures step { (es : List Entry) → events_of (with_step es) ≡ events_of es ++ Step ∷ [] }
     ensures irq { (d w : ℕ) (es : List Entry) →
@@ -29,15 +29,21 @@ pub fn a_history_grows_by_one_event()
         step_count (with_irq d w es) ≡ step_count es }
     ensures irqs_by_irq { (d w : ℕ) (es : List Entry) →
         irq_count (with_irq d w es) ≡ irq_count es + 1 }
+    ensures interrupts_by_step { (es : List Entry) → interrupts (with_step es) ≡ interrupts es }
+    ensures interrupts_by_irq { (d w : ℕ) (es : List Entry) →
+        interrupts (with_irq d w es) ≡ interrupts es ++ (d, w) ∷ [] }
+    ensures interrupts_counted { (es : List Entry) → length (interrupts es) ≡ irq_count es }
 {}
 
-/// A history with n steps more is the same events and n steps behind them, counts n steps more, and
+/// A history with n steps more is the same events and n steps after them, counts n steps more, and
 /// has the same interrupts and words. It is all the same in how many parts the steps are added.
 pub fn a_history_grows_by_steps()
     ensures events { (n : ℕ) (es : List Entry) →
         events_of (with_steps n es) ≡ events_of es ++ replicate n Step }
     ensures steps { (n : ℕ) (es : List Entry) → step_count (with_steps n es) ≡ step_count es + n }
     ensures irqs { (n : ℕ) (es : List Entry) → irq_count (with_steps n es) ≡ irq_count es }
+    ensures interrupts { (n : ℕ) (es : List Entry) →
+        interrupts (with_steps n es) ≡ interrupts es }
     ensures words { (n device : ℕ) (es : List Entry) →
         words_of device (with_steps n es) ≡ words_of device es }
     ensures parts { (m n : ℕ) (es : List Entry) →
@@ -51,4 +57,18 @@ pub fn an_interrupt_is_one_word_more()
         words_of device (with_step es) ≡ words_of device es }
     ensures irq { (device d w : ℕ) (es : List Entry) →
         words_of device (with_irq d w es) ≡ words_of device es ++ words_in device (entry.Irq d w) }
+{}
+
+/// An interrupt closes the entry of steps before it and itself: steps leave the closed entries as
+/// they are, and all entries but a last one of steps are closed. There are at most two for each
+/// interrupt, and they never end in steps.
+pub fn an_interrupt_closes_an_entry()
+    ensures step { (es : List Entry) → closed (with_step es) ≡ closed es }
+    ensures steps { (n : ℕ) (es : List Entry) → closed (with_steps n es) ≡ closed es }
+    ensures irq { (d w : ℕ) (es : List Entry) → closed (with_irq d w es) ≡ with_irq d w es }
+    ensures whole { (es : List Entry) → es ≡ closed es ++ unclosed es }
+    ensures interrupts { (es : List Entry) → interrupts (closed es) ≡ interrupts es }
+    ensures few { (es : List Entry) → parted es ≡ true → length (closed es) ≤ 2 * irq_count es }
+    ensures no_steps_last { (es got left : List Entry) → parted es ≡ true
+        → closed es ≡ got ++ left → interrupts left ≡ [] → closed es ≡ got }
 {}
