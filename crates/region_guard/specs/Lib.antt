@@ -3,3 +3,4 @@ pub mod Laws
 pub mod Lending
 pub mod Memory
 pub mod Region
+pub mod Regions

@@ -27,9 +27,13 @@ covers r a n = nat_le r.base a && nat_le (a + n) (r.base + r.size)
 abbrev pub is_for : ℕ → Region → Bool
 is_for m r = bits r.who m 1 == 1
 
+-- its modules may use the n addresses from a on so
+abbrev pub allows : Access → ℕ → ℕ → Region → Bool
+allows k a n r = covers r a n && gives r.rights k
+
 -- the region lets module m use the n addresses from a on
 abbrev pub lets : ℕ → Access → ℕ → ℕ → Region → Bool
-lets m k a n r = covers r a n && gives r.rights k && is_for m r
+lets m k a n r = allows k a n r && is_for m r
 
 -- two regions have an address in common
 abbrev pub meets : Region → Region → Bool

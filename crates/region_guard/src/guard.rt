@@ -12,7 +12,8 @@ ghost use Rattle.region_guard.specs.Lending.{LendsWindow};
 ghost use Rattle.region_guard.specs.Region.{meets};
 ghost use Rattle.region_guard.specs.Memory.{Memory, IsInRam, IsRangeInRam, IsSound, may, reaches, byte, number, bytes_from, with_bytes, with_number};
 
-use crate::region::{Access, Region, some_lets};
+use crate::region::{Access, Region};
+use crate::regions::Regions;
 use crate::{MOST_REGIONS, RAM_BASE};
 use flat_ram::Ram;
 use std::alloc::Global;
@@ -30,20 +31,18 @@ pub enum AddErr {
 /// the start.
 #[derive(Drop)]
 pub struct Guard {
-    regions: Vec<Region>,
+    regions: Regions,
     ram: Ram,
 }
 
 impl Model for Guard {
-    ghost use Rattle.std.specs.Prelude.{◌≤◌, vec_capacity};
     ghost use Rattle.region_guard.specs.Memory.{Memory, IsSound};
 
     ghost Value = { Memory };
 
-    ghost view = { λ g. record { regions = g.regions.items; bytes = g.ram } };
+    ghost view = { λ g. record { regions = g.regions; bytes = g.ram } };
 
-    ghost invariant = { λ g.
-        IsSound (record { regions = g.regions.items; bytes = g.ram }) × (64 ≤ vec_capacity g.regions) };
+    ghost invariant = { λ g. IsSound (record { regions = g.regions; bytes = g.ram }) };
 }
 
 impl Guard {
@@ -52,7 +51,7 @@ impl Guard {
         requires { RAM_BASE + length ram ≤ 2 ^ 32 }
         ensures { IfOk result (λ g. g ≡ record { regions = []; bytes = ram }) }
     {
-        let regions = Vec::with_capacity(alloc, usize::from(MOST_REGIONS))?;
+        let regions = Regions::new(alloc)?;
         Ok(Guard { regions, ram })
     }
 
@@ -61,7 +60,7 @@ impl Guard {
         ensures value { result.now ≡ self.now.regions }
         ensures sound { IsSound self.now }
     {
-        &self.regions
+        self.regions.as_slice()
     }
 
     /// How many bytes of RAM there are.
@@ -78,8 +77,7 @@ impl Guard {
         ensures answer { result ≡ may self.now m access a n }
         ensures sound { IsSound self.now }
     {
-        let regions = &self.regions;
-        n == 0 || some_lets(regions, m, access, a, n)
+        n == 0 || self.regions.some_lets(m, access, a, n)
     }
 
     /// Whether module m may use the n addresses from a on, and there is at least one.
@@ -97,13 +95,14 @@ impl Guard {
         ensures answer { result ≡ add_answer self.old r }
         ensures after { self.new ≡ after_add self.old r result }
     {
-        if self.regions.len() == usize::from(MOST_REGIONS) {
+        let regions = self.regions.as_slice();
+        if regions.len() == usize::from(MOST_REGIONS) {
             return Err(AddErr::Full);
         }
-        match first_met(&self.regions, &r) {
+        match first_met(regions, &r) {
             Some(i) => Err(AddErr::Overlap(i as u8)),
             None => {
-                self.regions.push_reserved(r);
+                self.regions.push(r);
                 Ok(())
             }
         }

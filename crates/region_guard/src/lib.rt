@@ -7,6 +7,7 @@
 mod guard;
 mod laws;
 mod region;
+mod regions;
 
 pub use guard::{AddErr, Guard};
 pub use laws::{

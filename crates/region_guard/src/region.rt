@@ -1,7 +1,6 @@
 //! Regions: ranges of addresses with the rights that they give, and to whom.
-ghost use Rattle.std.specs.Prelude.{◌≡◌, ◌+◌, ◌^◌, ◌<◌, ◌≤◌, All};
-ghost use Rattle.std.specs.List.{list_any};
-ghost use Rattle.region_guard.specs.Region.{gives, is_for, lets, meets};
+ghost use Rattle.std.specs.Prelude.{◌≡◌, ◌+◌, ◌^◌, ◌<◌, ◌≤◌};
+ghost use Rattle.region_guard.specs.Region.{allows, gives, is_for, meets};
 
 use tx_types::ModNo;
 
@@ -54,15 +53,15 @@ impl Region {
         self.who >> m.number() & 1 == 1
     }
 
-    /// Whether the region lets a module use the n addresses from a on.
+    /// Whether the region allows a use of the n addresses from a on, by a module that it is for.
     #[inline]
-    pub fn lets(&self, m: ModNo, access: Access, a: u32, n: u32) -> bool
+    pub fn allows(&self, access: Access, a: u32, n: u32) -> bool
         requires some { 0 < n }
         requires addressable { self.now.base + self.now.size ≤ 2 ^ 32 }
-        ensures { result ≡ lets m access a n self.now }
+        ensures { result ≡ allows access a n self.now }
     {
         let into = a.wrapping_sub(self.base);
-        into < self.size && n <= self.size - into && self.rights.gives(access) && self.is_for(m)
+        into < self.size && n <= self.size - into && self.rights.gives(access)
     }
 
     /// Whether two regions have an address in common.
@@ -74,14 +73,4 @@ impl Region {
         u64::from(self.base) < u64::from(other.base) + u64::from(other.size)
             && u64::from(other.base) < u64::from(self.base) + u64::from(self.size)
     }
-}
-
-/// Whether one of the regions lets a module use the n addresses from a on.
-#[inline]
-pub(crate) fn some_lets(regions: &[Region], m: ModNo, access: Access, a: u32, n: u32) -> bool
-    requires some { 0 < n }
-    requires addressable { All (λ r. r.base + r.size ≤ 2 ^ 32) regions.now }
-    ensures { result ≡ list_any (lets m access a n) regions.now }
-{
-    regions.iter().any(|r| r.lets(m, access, a, n))
 }
