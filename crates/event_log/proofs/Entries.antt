@@ -144,63 +144,63 @@ pub few-entries : (es : List Entry) → parted es ≡ true → length es ≤ 2 *
 few-entries es h = omega (arith, few-by-front es h, open-small es)
 
 -- the last entry of steps raised by one
-pub history-raised : (es : List Entry) (n : ℕ) → IsHistory 16 (es ++ Steps n ∷ [])
-    → step_count (es ++ Steps n ∷ []) < 100000000 → IsHistory 16 (es ++ Steps (n + 1) ∷ [])
-history-raised es n h less =
-    let front = history-front 16 es (Steps n) h in
-    let next = last-follows 16 es (Steps n) h in
-    let one = last-entry 16 es (Steps n) h in
+pub history-raised : (devices : ℕ) (es : List Entry) (n : ℕ) → IsHistory devices (es ++ Steps n ∷ [])
+    → step_count (es ++ Steps n ∷ []) < 100000000 → IsHistory devices (es ++ Steps (n + 1) ∷ [])
+history-raised devices es n h less =
+    let front = history-front devices es (Steps n) h in
+    let next = last-follows devices es (Steps n) h in
+    let one = last-entry devices es (Steps n) h in
     let steps : step_count (es ++ Steps (n + 1) ∷ []) ≤ 100000000
     = omega (arith, step_count-append es (Steps n), step_count-append es (Steps (n + 1))) in
     let same : irq_count (es ++ Steps (n + 1) ∷ []) ≤ 65536
     = omega (arith, irq_count-append es (Steps n), irq_count-append es (Steps (n + 1)), h.irqs) in
-    history-append 16 es (Steps (n + 1)) front (omega arith) (grind (arith, nat_tests))
+    history-append devices es (Steps (n + 1)) front (omega arith) (grind (arith, nat_tests))
 
 -- an entry of steps opened where the last one isn't of steps
-pub history-opened : (es : List Entry) → IsHistory 16 es → ends_in_steps es ≡ false
-    → step_count es < 100000000 → IsHistory 16 (es ++ Steps 1 ∷ [])
-history-opened es h ends less =
+pub history-opened : (devices : ℕ) (es : List Entry) → IsHistory devices es → ends_in_steps es ≡ false
+    → step_count es < 100000000 → IsHistory devices (es ++ Steps 1 ∷ [])
+history-opened devices es h ends less =
     let steps : step_count (es ++ Steps 1 ∷ []) ≤ 100000000 = omega (arith, step_count-append es (Steps 1)) in
     let same : irq_count (es ++ Steps 1 ∷ []) ≤ 65536 = omega (arith, irq_count-append es (Steps 1), h.irqs) in
-    history-append 16 es (Steps 1) h (omega arith) (grind (arith, nat_tests))
+    history-append devices es (Steps 1) h (omega arith) (grind (arith, nat_tests))
 
 -- an interrupt goes behind any entry
-pub history-irq : (es : List Entry) (d w : ℕ) → IsHistory 16 es → d < 16 → w < 2 ^ 32
-    → irq_count es < 65536 → IsHistory 16 (es ++ Irq d w ∷ [])
-history-irq es d w h small word less =
+pub history-irq : (devices : ℕ) (es : List Entry) (d w : ℕ) → IsHistory devices es → d < devices → w < 2 ^ 32
+    → irq_count es < 65536 → IsHistory devices (es ++ Irq d w ∷ [])
+history-irq devices es d w h small word less =
     let steps : step_count (es ++ Irq d w ∷ []) ≤ 100000000 = omega (arith, step_count-append es (Irq d w), h.steps) in
     let irqs : irq_count (es ++ Irq d w ∷ []) ≤ 65536 = omega (arith, irq_count-append es (Irq d w)) in
-    history-append 16 es (Irq d w) h (small, word) (grind (arith, nat_tests))
+    history-append devices es (Irq d w) h (small, word) (grind (arith, nat_tests))
 
 -- a list is empty or has a last entry
 pub by-last : (P : List Entry → Type 0) → P [] → ((front : List Entry) (e : Entry) → P (front ++ e ∷ [])) → (es : List Entry) → P es
 by-last P none some [] = none
 by-last P none some (a ∷ es) = by-last (λ xs. P (a ∷ xs)) (some [] a) (λ front e. some (a ∷ front) e) es
 
-step-last : (front : List Entry) (e : Entry) → IsHistory 16 (front ++ e ∷ [])
-    → step_count (front ++ e ∷ []) < 100000000 → IsHistory 16 (with_step (front ++ e ∷ []))
-step-last front (Steps n) h less = rw with_step-append (history-raised front n h less)
-step-last front (Irq d w) h less =
-    rw with_step-irq (history-opened (front ++ Irq d w ∷ []) h (ends-append front (Irq d w)) less)
+step-last : (devices : ℕ) (front : List Entry) (e : Entry) → IsHistory devices (front ++ e ∷ [])
+    → step_count (front ++ e ∷ []) < 100000000 → IsHistory devices (with_step (front ++ e ∷ []))
+step-last devices front (Steps n) h less = rw with_step-append (history-raised devices front n h less)
+step-last devices front (Irq d w) h less =
+    rw with_step-irq (history-opened devices (front ++ Irq d w ∷ []) h (ends-append front (Irq d w)) less)
 
 -- a history with one step more is one, and so with n steps more
-history-step : (es : List Entry) → IsHistory 16 es → step_count es < 100000000 → IsHistory 16 (with_step es)
-history-step es =
-    by-last (λ xs. IsHistory 16 xs → step_count xs < 100000000 → IsHistory 16 (with_step xs))
-    (λ h less. history-opened [] h refl less)
-    step-last es
+pub history-step : (devices : ℕ) (es : List Entry) → IsHistory devices es → step_count es < 100000000 → IsHistory devices (with_step es)
+history-step devices es =
+    by-last (λ xs. IsHistory devices xs → step_count xs < 100000000 → IsHistory devices (with_step xs))
+    (λ h less. history-opened devices [] h refl less)
+    (step-last devices) es
 
-history-steps : (n : ℕ) (es : List Entry) → IsHistory 16 es → step_count es + n ≤ 100000000 → IsHistory 16 (with_steps n es)
-history-steps zero es h few = h
-history-steps (suc n) es h few =
+pub history-steps : (devices n : ℕ) (es : List Entry) → IsHistory devices es → step_count es + n ≤ 100000000 → IsHistory devices (with_steps n es)
+history-steps devices zero es h few = h
+history-steps devices (suc n) es h few =
     let few-after : step_count (with_step es) + n ≤ 100000000 = omega (arith, step_count-with_step es) in
-    history-steps n (with_step es) (history-step es h (omega arith)) few-after
+    history-steps devices n (with_step es) (history-step devices es h (omega arith)) few-after
 
 -- a sound history with n steps or one interrupt more is sound
 pub sound_steps : (n : ℕ) (es : List Entry) (irqs : ℕ) → IsSound (record { entries = es; irqs = irqs })
     → step_count es + n ≤ 100000000 → IsSound (record { entries = with_steps n es; irqs = irqs })
 sound_steps n es irqs h few = record {
-  history = history-steps n es h.history few;
+  history = history-steps 16 n es h.history few;
   room = omega (arith, irq_count-with_steps n es, h.room);
   at_most = h.at_most;
 }
@@ -208,7 +208,7 @@ sound_steps n es irqs h few = record {
 pub sound_irq : (es : List Entry) (d w irqs : ℕ) → IsSound (record { entries = es; irqs = irqs }) → d < 16 → w < 2 ^ 32
     → irq_count es < irqs → IsSound (record { entries = es ++ Irq d w ∷ []; irqs = irqs })
 sound_irq es d w irqs h small word less = record {
-  history = history-irq es d w h.history small word (omega (arith, h.at_most));
+  history = history-irq 16 es d w h.history small word (omega (arith, h.at_most));
   room = omega (arith, irq_count-append es (Irq d w));
   at_most = h.at_most;
 }

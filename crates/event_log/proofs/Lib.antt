@@ -4,5 +4,6 @@ pub mod Entries
 pub mod EventLists
 pub mod Lines
 pub mod LogIn
+pub mod Logged
 pub mod Unique
 pub mod WorkedLogs

@@ -35,7 +35,7 @@ lines-one [] more h = refl
 lines-one (b ∷ bs) more h =
     let other : (b == 10) ≡ false = ne_eqb b 10 h.0 in rw other (ap (onto_first b) (lines-one bs more h.1))
 
-lines-line : (e : Entry) (more : List ℕ) → IsWords e → lines_of (line_of e ++ more) ≡ line_of e ∷ lines_of more
+pub lines-line : (e : Entry) (more : List ℕ) → IsWords e → lines_of (line_of e ++ more) ≡ line_of e ∷ lines_of more
 lines-line e more words =
     ap lines_of (append_assoc (fields_of e) (10 ∷ []) more)
     ∙ lines-one (fields_of e) more (recursion_from_All (λ b. b ≢ 10) (fields_of e) (no-newline e words))
@@ -118,7 +118,7 @@ entries-test : (devices : ℕ) (es : List Entry) → Decides (list_all (is_entry
 entries-test devices es =
     Decides-by_and (is_entry devices) (IsEntry devices) (list_all (is_entry devices)) (entry-test devices) refl (λ _ _. refl) es
 
-history-tested : (devices : ℕ) (es : List Entry) → is_history devices es ≡ true → IsHistory devices es
+pub history-tested : (devices : ℕ) (es : List Entry) → is_history devices es ≡ true → IsHistory devices es
 history-tested devices es h =
     let last = and_parts (list_all (is_entry devices) es && parted es && nat_le (step_count es) 100000000) (nat_le (irq_count es) 65536) h in
     let third = and_parts (list_all (is_entry devices) es && parted es) (nat_le (step_count es) 100000000) last.0 in
@@ -130,7 +130,7 @@ history-tested devices es h =
       irqs = leb-true (irq_count es) 65536 last.1;
     }
 
-tested-history : (devices : ℕ) (es : List Entry) → IsHistory devices es → is_history devices es ≡ true
+pub tested-history : (devices : ℕ) (es : List Entry) → IsHistory devices es → is_history devices es ≡ true
 tested-history devices es h =
     and_from (list_all (is_entry devices) es && parted es && nat_le (step_count es) 100000000) (nat_le (irq_count es) 65536)
     (and_from (list_all (is_entry devices) es && parted es) (nat_le (step_count es) 100000000)

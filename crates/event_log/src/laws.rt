@@ -1,8 +1,11 @@
 //! What holds of every log: each function's contract is a law.
-ghost use Rattle.std.specs.Prelude.{◌≡◌, ℕ, ◌+◌, ◌*◌, ◌≤◌, List, [], ◌∷◌, ◌++◌, length, replicate, true};
+ghost use Rattle.std.specs.Prelude.{◌≡◌, ℕ, ◌+◌, ◌*◌, ◌^◌, ◌<◌, ◌≤◌, ◌↔◌, List, [], ◌∷◌, ◌++◌, codes, length, map, replicate, true};
 ghost use Rattle.event_log.specs.Events.{Step, Irq, events_of, interrupts, words_in, words_of};
-ghost use Rattle.event_log.specs.Log.{step_count, irq_count, parted, closed, unclosed, with_step, with_steps, with_irq};
+ghost use Rattle.event_log.specs.Log.{IsHistory, step_count, irq_count, parted, closed, unclosed, with_step, with_steps, with_irq};
+ghost use Rattle.event_log.specs.LogIn.{is_history, lines_of};
+ghost use Rattle.event_log.specs.Logged.{logged};
 ghost use Rattle.event_log.specs.Reading.{TextsApart, NoBadLine, OneBadLine, ReadsBack, SaysTrue};
+ghost use Rattle.event_log.specs.Text.{line_of, text_of};
 ghost use Rattle.event_log.specs.declared.entry.Entry.{Entry};
 ghost use Rattle.event_log.specs.declared.entry.Entry.TheVariants as entry;
 
@@ -71,4 +74,33 @@ pub fn an_interrupt_closes_an_entry()
     ensures few { (es : List Entry) → parted es ≡ true → length (closed es) ≤ 2 * irq_count es }
     ensures no_steps_last { (es got left : List Entry) → parted es ≡ true
         → closed es ≡ got ++ left → interrupts left ≡ [] → closed es ≡ got }
+{}
+
+/// What is recorded within the limits leaves a history one, and each prefix of one is one. The test
+/// `is_history` holds exactly of the histories of a board with so many devices.
+pub fn a_history_stays_one()
+    ensures step { (devices : ℕ) (es : List Entry) → is_history devices es ≡ true
+        → step_count es < 100000000 → is_history devices (with_step es) ≡ true }
+    ensures steps { (devices n : ℕ) (es : List Entry) → is_history devices es ≡ true
+        → step_count es + n ≤ 100000000 → is_history devices (with_steps n es) ≡ true }
+    ensures irq { (devices d w : ℕ) (es : List Entry) → is_history devices es ≡ true
+        → d < devices → w < 2 ^ 32 → irq_count es < 65536
+        → is_history devices (with_irq d w es) ≡ true }
+    ensures prefix { (devices : ℕ) (es after : List Entry) →
+        is_history devices (es ++ after) ≡ true → is_history devices es ≡ true }
+    ensures tested { (devices : ℕ) (es : List Entry) →
+        is_history devices es ≡ true ↔ IsHistory devices es }
+{}
+
+/// The lines of a history's text are those of its entries, one each, whatever follows the text.
+pub fn a_text_falls_into_its_lines()
+    ensures { (devices : ℕ) (es : List Entry) (rest : List ℕ) → devices ≤ 16 → IsHistory devices es
+        → lines_of (text_of es ++ rest) ≡ map line_of es ++ lines_of rest }
+{}
+
+/// Where a run's text is the text of a history, the line `report`, and anything after it, the lines
+/// before the first line `report` are read as that history.
+pub fn a_log_is_read_out_of_a_run()
+    ensures { (devices : ℕ) (es : List Entry) (more : List ℕ) → devices ≤ 16 → IsHistory devices es
+        → logged devices (text_of es ++ (codes "report\n" ++ more)) ≡ es }
 {}

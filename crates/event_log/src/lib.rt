@@ -15,7 +15,8 @@ mod replayer;
 pub use entry::{Entry, entry_line};
 pub use history::History;
 pub use laws::{
-    a_history_grows_by_one_event, a_history_grows_by_steps, an_interrupt_closes_an_entry,
+    a_history_grows_by_one_event, a_history_grows_by_steps, a_history_stays_one,
+    a_log_is_read_out_of_a_run, a_text_falls_into_its_lines, an_interrupt_closes_an_entry,
     an_interrupt_is_one_word_more, each_history_has_one_text,
 };
 pub use plain::PlainReplayer;

@@ -37,7 +37,7 @@ returns-in-Irq c =
     let one : (d < 16) × (w < 4294967296) = subst (IsEntry 16) c.in-Irq.is c.requires in
     let same : es ++ Irq d w ∷ [] ≡ c.args.self.now.entries ++ c.args.e.now ∷ []
     = ap (λ (h : Log). h.entries ++ Irq d w ∷ []) c.self.view_is ∙ ap (λ e. c.args.self.now.entries ++ e ∷ []) (sym c.in-Irq.is) in (
-      (λ less. subst (IsHistory 16) same (history-irq es d w c.self.invariant.0.history one.0 one.1 (grind (arith, nat_tests, less, c.self.invariant.2)))),
+      (λ less. subst (IsHistory 16) same (history-irq 16 es d w c.self.invariant.0.history one.0 one.1 (grind (arith, nat_tests, less, c.self.invariant.2)))),
       (λ h.
           let after = (subst (IsHistory 16) (sym same) h).irqs in
           grind (arith, nat_tests, after, irq_count-append es (Irq d w), c.self.invariant.2)),
