@@ -14,6 +14,23 @@ pub struct Board {
     pub shows: BoardShows,
 }
 
+impl Board {
+    ghost use Rattle.std.specs.Prelude.{◌≡◌, ◌^◌, ◌<◌};
+    ghost use Rattle.board_file.specs.Board.{script_words};
+
+    /// How many words the scripts of its devices have together.
+    pub fn words(&self) -> u32
+        requires { script_words self.now.devices < 2 ^ 32 }
+        ensures { result ≡ script_words self.now.devices }
+    {
+        let mut words = 0;
+        for device in self.devices.items() {
+            words += device.script.items().len() as u32;
+        }
+        words
+    }
+}
+
 /// A module: its name, the file of its image, and whether it is started at once.
 #[derive(Clone, Debug, Drop)]
 pub struct BoardModule {
