@@ -155,7 +155,7 @@ expect 'a device without end' 3 'refused image 0 too large' "$txboard" hart /dev
 
 # ---- The edges of the regions
 
-# The data region of these images is 800000a0 up to 800001e0: gp (x3) is its base and sp (x2) its end, behind
+# The data region of these images is 800000a0 up to 800001e0: gp (x3) is its base and sp (x2) its end, after
 # which a callback's stack lies where there is a callback. The code begins at 80000080; 73 is ECALL, and 13 does
 # nothing. A row: what it is, the changes of the preamble, the code, the steps, the end, pc, x5, and sp where it
 # is another.
@@ -247,6 +247,15 @@ a jump to the last address||ffc00067|1|fault 1|fffffffc|00000000
 a jump to the address 0||00000067|1|fault 1|00000000|00000000
 ROWS
 
+# P1 with another instruction: the registers stay
+while IFS='|' read -r code steps end; do
+    coded "$code" >"$work/made.img"
+    expect "p1 with $code" 0 "$(hart_text "$steps" "$end" 80000080 00000000)" "$txboard" hart "$work/made.img" 3
+done <<'ROWS'
+0000006f|3|count
+00000000|0|fault 2
+ROWS
+
 # ---- Files that can't be read
 
 long=$(head -c 100000 /dev/zero | tr '\0' a)
@@ -255,6 +264,13 @@ expect 'no such folder' 2 '' "$txboard" hart "$work/none/p1.img" 1
 expect 'a folder' 2 '' "$txboard" hart "$work" 1
 expect 'below a file' 2 '' "$txboard" hart "$p1/p1.img" 1
 expect 'an empty name' 2 '' "$txboard" hart '' 1
+# a blank belongs to a name, also at an end of it
+for name in ' p1.img' 'p1.img ' ' ' $'p1.img\n' $'\tp1.img'; do
+    expect "a name with a blank at an end, '$name': none there" 2 '' "$txboard" hart "$work/$name" 1
+    cp "$p1" "$work/$name"
+    expect "a name with a blank at an end, '$name'" 0 "$p1_text" from "$work" "$txboard" hart "$name" 1
+    rm "$work/$name"
+done
 expect 'a name of 100,000 bytes' 2 '' "$txboard" hart "$long" 1
 
 # permission doesn't bind root, who runs the case as nobody
@@ -292,6 +308,7 @@ mkdir "$boards" && cp "$p1" "$boards/p1.img" && cp "$p1" "$boards/a name.img"
 { preamble code_size=9c; head -c 28 /dev/zero; } >"$boards/telemetry.img"
 { preamble code_size=e0 data_size=600; head -c 96 /dev/zero; } >"$boards/data.img"
 image major=7 >"$boards/major.img"
+image data_size=1000 >"$boards/large_data.img"
 head -c 100 "$p1" >"$boards/short.img"
 head -c $((0x100001)) /dev/zero >"$boards/large.img"
 board() {
@@ -362,7 +379,22 @@ ROWS
 board 'two that just fit' 0 'module 0 m0 code 80000000 224 data 800000e0 1792
 module 1 m1 code 800007e0 224 data 800008c0 1792
 ok' < <(modules 4096 data.img data.img)
+board 'three that fit' 0 'module 0 m0 code 80000000 224 data 800000e0 1792
+module 1 m1 code 800007e0 224 data 800008c0 1792
+module 2 m2 code 80000fc0 224 data 800010a0 1792
+ok' < <(modules 8192 data.img data.img data.img)
 board 'seventeen modules' 3 'refused board: module' < <(modules 16777216 $(printf 'p1.img %.0s' {1..17}))
+for name in ' p1.img' 'p1.img '; do
+    board "an image with a blank at an end, '$name': none there" 2 '' < <(modules 4096 "$name")
+done
+cp "$p1" "$boards/p1.img "
+board 'a name with a blank at its end' 0 "$one_text" <<'BOARD'
+ram = 4096
+steps = 0
+[[module]]
+name = "one"
+image = "p1.img "
+BOARD
 board 'a name with a blank' 0 "$one_text" <<'BOARD'
 ram = 4096
 steps = 0
@@ -473,7 +505,7 @@ log 'an empty line' 3 'refused log: line 1' <<<''
 log 'a leading zero' 3 'refused log: line 1' <<<'S 01'
 log 'no step' 3 'refused log: line 1' <<<'S 0'
 log 'a return before the end' 3 'refused log: line 1' < <(printf 'S 1\r\n')
-log 'a blank behind' 3 'refused log: line 1' <<<'S 1 '
+log 'a blank after it' 3 'refused log: line 1' <<<'S 1 '
 log 'one step too many' 3 'refused log: line 1' <<<'S 100000001'
 log 'a number of 100,000 digits' 3 'refused log: line 1' <<<"S ${long//a/1}"
 log 'a header' 3 'refused log: line 1' <<<'V 2 1 0'
@@ -484,30 +516,9 @@ expect 'no such log' 2 '' from "$top" "$txboard" replay examples/one.board.toml 
 expect 'a folder for a log' 2 '' from "$top" "$txboard" replay examples/one.board.toml "$work"
 expect 'a log without end' 3 'refused log too large' from "$top" "$txboard" replay examples/one.board.toml /dev/zero
 
-# two modules: after 43 steps the radio has counted to 3 and stores beyond its data; in the other 57 the meter alone
-# counts from 4 to 13 and has begun to count once more
-two_modules='S 20
-I 0 00000001
-S 80
-report
-events steps 100 irqs 1 ticks 0 clock 0
-running 0
-held
-ready 0
-waits begun 0 satisfied 0 timedout 0 aborted 0 deleted 0 gone 0
-module 0 meter state 1 queued 0 dropped 0
-module 1 radio state 3 queued 0 dropped 0
-fault 1 thread 1 cause 7 pc 8000027c
-thread 0 module 0 start state 0 priority 10 10 threshold 10 10 slice 0 0 pc 80000088
-'"regs 00000000 800001e0 800000a0 00000000 00000000 0000000e 00000000 00000000 00000000 $zeros4 00000000 00000000 00000000 00000016 \
-$zeros4 $zeros4 $zeros4 00000000 00000000"'
-device 0 wake taken 1 last 12
-show 0 0000000d
-show 1 00000003
-end'
-expect 'two modules' 0 "$two_modules" from "$top" "$txboard" replay examples/two.board.toml examples/two.log
-from "$top" "$txboard" replay examples/two.board.toml examples/two.log | sed '/^report$/,$d' >"$work/log"
-expect 'the log that came back, once more' 0 "$two_modules" from "$top" "$txboard" replay examples/two.board.toml "$work/log"
+# a device that the board has not, and the last one that it has
+expect 'log: a device past the last' 3 'refused log: line 2' from "$top" "$txboard" replay examples/two.board.toml \
+    <(printf 'S 1\nI 1 00000000\n')
 
 # the board and its images are refused before the log is read, and the log before the boot
 replay() { expect "replay: $1" "$2" "$3" from "$boards" "$txboard" replay board.toml "$work/log"; }
@@ -522,6 +533,11 @@ printf 'S 1\n' >"$work/log"
 replay 'then the preambles' 3 'refused image 0: BadMajor 00000007'
 modules 4096 data.img data.img data.img >"$boards/board.toml"
 replay 'then room' 3 'refused room 2'
+printf 'S 0\n' >"$work/log"
+replay 'the log before room' 3 'refused log: line 1'
+printf 'S 3\n' >"$work/log"
+modules 4096 large_data.img >"$boards/board.toml"
+replay 'no room for the first' 3 'refused room 0'
 
 if [ -w /dev/full ]; then
     expect 'a full device: a session' 4 '' from "$top" to_full replay examples/two.board.toml examples/two.log
@@ -529,6 +545,31 @@ fi
 expect 'a closed output: a session' 4 '' from "$top" to_none replay examples/two.board.toml examples/two.log
 expect 'a reader that has gone: a session' 4 '' from "$top" to_gone replay examples/two.board.toml examples/two.log
 expect 'a reader of one line of a session' 0 'S 20' from "$top" first_line replay examples/two.board.toml examples/two.log
+
+# ---- Sessions: a board, a log, and the whole text that is due, as tests/sessions/README.md tells
+
+session() { expect "session: $1" 0 "$(cat "$2/$5")" from "$2" "$txboard" replay "$3" "$4"; }
+for log in "$top"/tests/sessions/*/*.log; do
+    folder=$(dirname "$log") name=$(basename "$log" .log)
+    session "$(basename "$folder")/$name" "$folder" board.toml "$name.log" "$name.expected"
+done
+session 'examples/asm' "$top" examples/two.board.toml examples/two.log examples/two.expected
+session 'examples/c' "$top" examples/c/board.toml examples/c/session.log examples/c/session.expected
+sed '/^report$/,$d' "$top/examples/two.expected" >"$work/log"
+session 'the log that came back, once more' "$top" examples/two.board.toml "$work/log" examples/two.expected
+if command -v python3 >"$work/out"; then
+    expect 'limits: the session is made' 0 '' python3 "$top/tests/limits.py" "$work/limits"
+    session 'the limits of a board' "$work/limits" board.toml log expected
+else
+    skipped 'the limits of a board: there is no python3'
+fi
+if command -v riscv64-unknown-elf-as >"$work/out" && command -v make >"$work/out"; then
+    mkdir -p "$work/again/examples" "$work/again/tests"
+    cp -r "$top/examples/asm" "$work/again/examples" && cp -r "$top/tests/sessions" "$work/again/tests"
+    expect 'the images of the sessions are their sources' 0 '' make -s -C "$work/again/tests/sessions" compare
+else
+    skipped 'the images of the sessions are their sources: there is no riscv64-unknown-elf-as'
+fi
 
 # ---- Words
 
@@ -559,7 +600,7 @@ expect 'words: no text as a name' 1 "$usage" "$txboard" hart $'\xff' 1
 expect 'words: no text as a board' 1 "$usage" "$txboard" check $'\xff'
 expect "words: a program's name that is no text" 0 "$p1_text" \
     bash -c 'exec -a "$1" "${@:2}"' - $'\xff' "$txboard" hart "$p1" 1
-expect 'words: no text behind the others' 1 "$usage" "$txboard" hart "$p1" 1 $'p1\xc3\x28'
+expect 'words: no text after the others' 1 "$usage" "$txboard" hart "$p1" 1 $'p1\xc3\x28'
 
 # ---- The wrapper: relative names are those of the caller, and words stay whole
 
@@ -571,6 +612,15 @@ expect 'wrapper: a name with spaces' 0 "$p1_text" from "$work/a folder" "$top/tx
 expect 'wrapper: a star' 2 '' from "$work/a folder" "$top/txboard" hart '*' 1
 expect 'wrapper: an empty word' 1 "$usage" "$top/txboard" hart "$p1" 1 ''
 expect 'wrapper: no words' 1 "$usage" "$top/txboard"
+
+# built at once, with no proof: it says so on standard error
+unproved() {
+    "$top/txboard" --unproved "$@" 2>"$work/said"
+    local status=$?
+    grep -q 'NOTHING OF THIS IS PROVED' "$work/said" && return "$status"
+}
+expect 'wrapper: --unproved' 0 "$(cat "$top/examples/two.expected")" \
+    from "$top" unproved replay examples/two.board.toml examples/two.log
 
 # ---- The files of the repository
 
