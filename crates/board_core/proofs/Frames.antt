@@ -20,7 +20,7 @@ use Rattle.kernel_state.specs.Laws.{RunningIsReady, ReadyIsThread}
 use Rattle.kernel_state.specs.Outcome.{Outcome, found, unless}
 use Rattle.kernel_state.specs.declared.kernel.Kernel.{Kernel}
 use Rattle.kernel_state.specs.declared.thread.Thread.{Thread}
-use Rattle.thread_calls.specs.ThreadRows.{resumption}
+use Rattle.thread_calls.specs.ThreadRows.{resumption, starting}
 use Rattle.call_dispatch.specs.Ecall.{arguments, dispatched, number_asked}
 use Rattle.call_dispatch.specs.Laws.{CallWritesItsResultAlone}
 use Rattle.call_dispatch.specs.Results.{Range, IsOutsideOf, call_result}
@@ -111,7 +111,7 @@ unless-memory k g None change same = same
 unless-memory k g (Some c) change same = refl
 
 resumption-memory : (k : Kernel) (g : Memory) (t : ℕ) → (resumption k g t).memory ≡ g
-unfolding resumption
+unfolding resumption starting
 resumption-memory k g t =
     cond_both (thread k t).held _ _ (λ (o : Outcome). o.memory ≡ g) (λ held. refl) (λ free. unless-memory k g _ _ refl)
 

@@ -1,11 +1,23 @@
--- A call writes its result alone, and one that is refused changes the a0 of its caller alone.
-use Rattle.std.proofs.Common.{ℕ, Option, ap}
+-- A call writes its result alone; it changes no register of its caller but a0, and one that is refused nothing else.
+use Rattle.std.proofs.Common.{ℕ, ◌<◌, ◌≤◌, length, Option, ap, refl, sym, subst, ⊎_elim}
+use Rattle.std.specs.List.{slice_index_or}
+use Rattle.std.proofs.lemmas.Bool.{cases_lt}
+use Rattle.std.proofs.lemmas.List.{get_or-set_same, get_or-set_other, set_past}
+use Rattle.rv_core.specs.Hart.{HartState, with_register}
 use Rattle.kernel_state.specs.Kernel.{thread}
+use Rattle.kernel_state.specs.Laws.{RunningIsReady, ReadyIsThread}
 use Rattle.kernel_state.specs.Outcome.{Outcome, found}
-use Rattle.call_dispatch.specs.Ecall.{arguments, dispatched, number_asked, with_answer}
+use Rattle.kernel_state.specs.Thread.{blank_thread}
+use Rattle.kernel_state.specs.declared.answer.Answer.{Answer}
+use Rattle.kernel_state.specs.declared.answer.Answer.TheVariants.{Code, Value, Waits, Ended}
+use Rattle.kernel_state.specs.declared.kernel.Kernel.{Kernel}
+use Rattle.kernel_state.specs.declared.thread.Thread.{Thread}
+use Rattle.call_dispatch.specs.Caller.{CallChangesA0Alone, ChangesA0Alone}
+use Rattle.call_dispatch.specs.Ecall.{arguments, dispatched, number_asked, with_a0, with_answer}
 use Rattle.call_dispatch.specs.Laws.{CallWritesItsResultAlone, RefusalChangesNothing, RefusedCallChangesA0Alone, NoRowChangesA0Alone}
 use Rattle.call_dispatch.specs.Rows.{call_row, feature_not_enabled, served}
 use Rattle.call_dispatch.specs.declared.service.Service.{Service}
+use Rattle.call_dispatch.proofs.Callers.{running_calls}
 use Rattle.call_dispatch.proofs.EachRow.{call_is_row}
 use Rattle.call_dispatch.proofs.Writes.{AllowedIsWrittenAlone}
 
@@ -30,3 +42,33 @@ unfolding dispatched with_answer call_row
 no_row_changes_a0_alone k g t none =
     let h = (thread k t).hart in
     ap (λ (o : Option Service). answer_put t (found k g feature_not_enabled o (λ s. served s k g t (arguments h)))) none
+
+-- no register changes
+none_put : (h : HartState) → ChangesA0Alone h h
+none_put h = record { pc = refl; registers = λ r other. refl }
+
+-- what an answer does to the registers of its thread
+a0_put : (k : Kernel) (t v : ℕ) → ChangesA0Alone (thread k t).hart (thread (with_a0 k t v) t).hart
+a0_put k t v =
+    let h = (thread k t).hart in
+    let put : Thread = record (thread k t) { hart = with_register h 10 v } in
+    ⊎_elim
+    (λ (within : t < length k.threads). subst (λ (x : Thread). ChangesA0Alone h x.hart) (sym (get_or-set_same k.threads t put blank_thread within))
+    (record { pc = refl; registers = λ r other. get_or-set_other h.x 10 r v 0 other }))
+    (λ (past : length k.threads ≤ t). subst (λ ts. ChangesA0Alone h (slice_index_or ts t blank_thread).hart) (sym (set_past k.threads t put past)) (none_put h))
+    (cases_lt t (length k.threads))
+
+answer_is_put : (k : Kernel) (t : ℕ) (answer : Answer) → ChangesA0Alone (thread k t).hart (thread (with_answer k t answer) t).hart
+unfolding with_answer
+answer_is_put k t (Code c) = a0_put k t c
+answer_is_put k t (Value v) = a0_put k t v
+answer_is_put k t Waits = none_put (thread k t).hart
+answer_is_put k t Ended = none_put (thread k t).hart
+
+pub call_changes_a0_alone : RunningIsReady → ReadyIsThread → CallChangesA0Alone
+unfolding dispatched
+call_changes_a0_alone is_ready is_thread k g t sound runs =
+    let h = (thread k t).hart in
+    let o = call_row (number_asked h) k g t (arguments h) in
+    let keeps = (call_is_row (number_asked h) k g t (arguments h)).caller (running_calls is_ready is_thread k t sound runs) in
+    subst (λ (was : HartState). ChangesA0Alone was (thread (with_answer o.kernel t o.answer) t).hart) keeps (answer_is_put o.kernel t o.answer)

@@ -4,8 +4,11 @@
 //! already; a0 is all that is written here, and of the caller alone.
 ghost use Rattle.std.specs.Prelude.{◌≡◌, Some};
 ghost use Rattle.kernel_state.specs.Sound.{IsSound};
+ghost use Rattle.kernel_state.specs.Kernel.{thread};
+ghost use Rattle.call_dispatch.specs.Caller.{ChangesA0Alone};
 ghost use Rattle.call_dispatch.specs.Ecall.{arguments, with_a0, with_answer, dispatched};
 
+use crate::laws::a_call_changes_its_a0_alone;
 use crate::rows::call;
 use kernel_state::laws::a_kernel_stays_sound;
 use kernel_state::{Answer, Args, Kernel};
@@ -22,8 +25,10 @@ pub fn dispatch(k: &mut Kernel, g: &mut Guard, t: ThreadNo)
     requires runs { k.old.ready.run ≡ Some t }
     ensures kernel { k.new ≡ (dispatched k.old g.old t).kernel }
     ensures memory { g.new ≡ (dispatched k.old g.old t).memory }
+    ensures caller { ChangesA0Alone (thread k.old t).hart (thread k.new t).hart }
     ensures sound { IsSound k.new }
 {
+    a_call_changes_its_a0_alone();
     let hart = k.hart(t);
     let number = hart.get(17);
     let a = arguments(hart);

@@ -1,7 +1,9 @@
 //! What holds of every call, whatever it asks for: each function's contract is a law.
+ghost use Rattle.call_dispatch.specs.Caller.{CallChangesA0Alone};
 ghost use Rattle.call_dispatch.specs.Laws.{NumberNamesItsService, ServiceHasItsNumber, CallWritesItsResultAlone, RefusalChangesNothing, RefusedCallChangesA0Alone, NoRowChangesA0Alone};
 
 use flat_ram::a_write_changes_its_range_alone;
+use kernel_state::laws::who_runs_is_a_thread;
 use region_guard::{a_write_changes_its_bytes_alone, what_may_be_used_is_in_ram};
 
 /// Each service has one number, which is no other's.
@@ -27,3 +29,10 @@ pub fn a_refused_call_changes_its_a0_alone()
     ensures refused { RefusedCallChangesA0Alone }
     ensures no_row { NoRowChangesA0Alone }
 {}
+
+/// A call changes no register of its caller but a0, whatever it asks for.
+pub fn a_call_changes_its_a0_alone()
+    ensures { CallChangesA0Alone }
+{
+    who_runs_is_a_thread();
+}

@@ -1,8 +1,7 @@
 -- New numbers of a thread, and a yield, keep a kernel sound.
-use Rattle.std.proofs.Common.{◌≡◌, ℕ, ◌<◌, ◌≤◌, Bool, true, false, min, slice_set, refl, sym, ap, ◌∙◌, subst, arith}
+use Rattle.std.proofs.Common.{◌≡◌, ℕ, ◌<◌, true, min, refl, sym, ◌∙◌, subst, arith}
 use Rattle.std.proofs.lemmas.List.{get_or-set_same, set-get_or}
 use Rattle.ready_maps.specs.Moves.{yielded, threshold_set, priority_set}
-use Rattle.ready_maps.specs.Sched.{Sched, is_ready, pr, th}
 use Rattle.kernel_state.specs.Kernel.{thread, with_thread, is_thread}
 use Rattle.kernel_state.specs.Laws.{OneThreadChanges, with_both}
 use Rattle.kernel_state.specs.Scheduling.{YieldChangesNone, ThresholdChangesOne, PriorityChangesOne}
@@ -12,7 +11,7 @@ use Rattle.kernel_state.specs.declared.kernel.Kernel.{Kernel}
 use Rattle.kernel_state.specs.declared.thread.Thread.{Thread}
 use Rattle.thread_calls.specs.Laws.{ThresholdKeepsSound, PriorityKeepsSound, SliceKeepsSound, YieldKeepsSound}
 use Rattle.thread_calls.proofs.StateChanges.{alone_keeps_sound}
-use Rattle.thread_calls.proofs.Suits.{Suits, below_256, thread_is_right, sound_with, whole_slice}
+use Rattle.thread_calls.proofs.Suits.{below_256, thread_is_right, sound_with, whole_slice}
 
 -- the thread that was changed
 thread_after : (k : Kernel) (t : ℕ) (now : Thread) → IsSound k → is_thread k t ≡ true → thread (with_thread k t now) t ≡ now

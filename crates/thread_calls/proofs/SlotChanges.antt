@@ -1,23 +1,21 @@
 -- Allocating, freeing and granting a slot keep a kernel sound.
-use Rattle.std.proofs.Common.{◌≡◌, ℕ, ◌<◌, ◌%◌, ◌==◌, ◌&&◌, Bool, true, false, cond, nat_lt, List, length, Option, None, Some, position, refl, sym, ap, ◌∙◌, subst, ⊎_elim, bit_or, ◌^◌, arith}
+use Rattle.std.proofs.Common.{◌≡◌, ℕ, ◌<◌, ◌==◌, ◌&&◌, true, false, nat_lt, List, Option, None, Some, position, refl, sym, ap, ◌∙◌, ⊎_elim, bit_or, ◌^◌, arith}
 use Rattle.std.proofs.lemmas.Bool.{and_parts, cases_lt, cond_both, eqb-true, false≢true}
 use Rattle.std.proofs.Math.Nat.{mod-lt}
 use Rattle.std.proofs.lemmas.List.{get_or_past}
 use Rattle.std.proofs.lemmas.List.Quantifiers.{position-Some}
-use Rattle.std.specs.List.{slice_index_or}
 use Rattle.std.specs.Str.{bytes_eq}
 use Rattle.tx_types.specs.Reference.{slot_of}
 use Rattle.tx_types.specs.declared.kind.Kind.{Kind}
 use Rattle.tx_types.specs.declared.kind.Kind.TheVariants.{Thread as ThreadKind}
 use Rattle.object_grants.specs.Slot.{free_slot, has_name, is_in, is_kind, is_own_empty, is_usable, last_generation, owns, slot_state_number}
-use Rattle.object_grants.specs.Table.{allocated, allocated_at, after_free, named, names, slot, with_slot}
+use Rattle.object_grants.specs.Table.{allocated, allocated_at, after_free, named, names, slot}
 use Rattle.object_grants.specs.declared.slot.Slot.{Slot}
 use Rattle.object_grants.specs.declared.slot.SlotState.{SlotState}
 use Rattle.object_grants.specs.declared.slot.SlotState.TheVariants.{Free, Empty, Live}
-use Rattle.kernel_state.specs.Kernel.{has_thread, is_thread}
+use Rattle.kernel_state.specs.Kernel.{has_thread}
 use Rattle.kernel_state.specs.Laws.{OneSlotChanges}
 use Rattle.kernel_state.specs.Sound.{IsSound, IsClean}
-use Rattle.kernel_state.specs.declared.kernel.Kernel.{Kernel}
 use Rattle.thread_calls.specs.Laws.{AllocateKeepsSound, DeallocateKeepsSound, GrantKeepsSound}
 
 -- a slot that is free, or empty, has no thread

@@ -1,5 +1,5 @@
 -- Starting, suspending, ending and resetting a thread, and lifting a suspension, keep a kernel sound.
-use Rattle.std.proofs.Common.{◌≡◌, ◌≢◌, ℕ, ◌<◌, ◌≤◌, ◌⊎◌, ◌==◌, Bool, true, false, cond, min, refl, sym, ap, ◌∙◌, subst, ⊎_elim, inl, inr, arith}
+use Rattle.std.proofs.Common.{◌≡◌, ℕ, ◌<◌, ◌⊎◌, ◌==◌, Bool, true, false, refl, sym, ap, ◌∙◌, subst, ⊎_elim, arith}
 use Rattle.std.proofs.lemmas.Bool.{cond_both, eqb-true, false≢true, false_from_ne_true}
 use Rattle.tx_types.specs.State.{state_number}
 use Rattle.tx_types.specs.declared.state.State.{State}
@@ -13,8 +13,7 @@ use Rattle.kernel_state.specs.Sound.{IsSound}
 use Rattle.kernel_state.specs.Thread.{is_over, is_state, is_waiting}
 use Rattle.kernel_state.specs.declared.kernel.Kernel.{Kernel}
 use Rattle.kernel_state.specs.declared.thread.Thread.{Thread}
-use Rattle.thread_calls.specs.Changes.{started, suspended, ended, reset}
-use Rattle.thread_calls.specs.Laws.{StartKeepsSound, SuspendKeepsSound, EndKeepsSound, ResetKeepsSound, LiftKeepsSound}
+use Rattle.thread_calls.specs.Laws.{StartKeepsSound, SuspendKeepsSound, EndKeepsSound, ResetKeepsSound, LiftKeepsSound, WaitKeepsSound}
 use Rattle.thread_calls.proofs.Suits.{Suits, below_256, thread_is_right, sound_with, unchanged, whole_slice, not_waiting, over_number}
 
 pub start_keeps_sound : OneThreadChanges → ReadyChangesOne → StartKeepsSound
@@ -130,3 +129,11 @@ lift_keeps_sound changes k t sound live =
       slice = was.slice;
       held = λ held. absurd (false≢true held);
     })
+
+-- a state in which a thread waits isn't READY
+waits_is_not_ready : (state : State) → is_waiting state ≡ true → is_state state Ready ≡ false
+waits_is_not_ready state waits = false_from_ne_true (is_state state Ready) (λ ready. not_waiting state 0 (eqb-true (state_number state) 0 ready) (omega arith) waits)
+
+pub wait_keeps_sound : OneThreadChanges → UnreadyChangesOne → WaitKeepsSound
+wait_keeps_sound changes unreadies k t state sound live ready waits =
+    unreadied_keeps_sound changes unreadies k t state false sound live ready (waits_is_not_ready state waits) refl

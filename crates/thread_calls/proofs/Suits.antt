@@ -1,12 +1,11 @@
 -- A thread that changes and agrees with the scheduler keeps its kernel sound.
-use Rattle.std.proofs.Common.{◌≡◌, ◌≢◌, ℕ, ◌<◌, ◌≤◌, ◌==◌, ◌||◌, ◌⊎◌, Bool, true, false, cond, min, nat_le, List, length, refl, sym, ap, ◌∙◌, subst, ⊎_elim, inl, inr, arith}
-use Rattle.std.proofs.lemmas.Bool.{and_parts, cases_eq, cases_lt, eqb-true, false≢true, leb-true, or_cases}
+use Rattle.std.proofs.Common.{◌≡◌, ◌≢◌, ℕ, ◌<◌, ◌≤◌, ◌⊎◌, true, min, refl, sym, ap, ◌∙◌, subst, ⊎_elim, inl, inr, arith}
+use Rattle.std.proofs.lemmas.Bool.{cases_eq, cases_lt, eqb-true, false≢true, leb-true, or_cases}
 use Rattle.std.proofs.lemmas.List.{get_or-set_same, get_or_past}
 use Rattle.tx_types.specs.State.{state_number}
 use Rattle.tx_types.specs.declared.state.State.{State}
-use Rattle.tx_types.specs.declared.state.State.TheVariants.{Ready, Completed, Terminated, Suspended}
+use Rattle.tx_types.specs.declared.state.State.TheVariants.{Ready, Completed, Terminated}
 use Rattle.object_grants.specs.Slot.{free_slot}
-use Rattle.object_grants.specs.Table.{slot}
 use Rattle.ready_maps.specs.Sched.{Sched, is_ready, pr, th}
 use Rattle.kernel_state.specs.Kernel.{thread, has_thread, is_thread, module_of}
 use Rattle.kernel_state.specs.Laws.{OneThreadChanges, with_both}

@@ -1,5 +1,5 @@
 -- What the thread services change: a thread is started, suspended, ended, reset, or gets new numbers.
-use Rattle.std.specs.Prelude.{ℕ, ◌+◌, ◌*◌, ◌/◌, ◌%◌, ◌^◌, ◌==◌, Bool, true, false, List, [], ◌∷◌, slice_set, if◌then◌else◌}
+use Rattle.std.specs.Prelude.{ℕ, Bool, true, false, List, [], ◌∷◌, if◌then◌else◌}
 use Rattle.tx_types.specs.State.{state_number}
 use Rattle.tx_types.specs.declared.state.State.{State}
 use Rattle.tx_types.specs.declared.state.State.TheVariants.{Ready, Suspended}
@@ -15,20 +15,28 @@ started k t =
     let now = with_thread k t (record (thread k t) { state = Ready; left = (thread k t).slice; fresh = false }) in
     record now { ready = readied k.ready t }
 
+-- a suspension is held until the end of a wait, and one that is held is lifted
+abbrev pub with_held : Kernel → ℕ → Bool → Kernel
+with_held k t held = with_thread k t (record (thread k t) { held = held })
+
 -- a ready thread is suspended at once, and a waiting one at the end of its wait
+abbrev pub suspended_at_once : Kernel → ℕ → Kernel
+suspended_at_once k t = record (with_thread k t (record (thread k t) { state = Suspended })) { ready = unreadied k.ready t }
+
 abbrev pub suspended : Kernel → ℕ → Kernel
 suspended k t =
-    if is_state (thread k t).state Ready
-    then record (with_thread k t (record (thread k t) { state = Suspended })) { ready = unreadied k.ready t }
-    else (if is_waiting (thread k t).state then with_thread k t (record (thread k t) { held = true }) else k)
+    if is_state (thread k t).state Ready then suspended_at_once k t
+    else (if is_waiting (thread k t).state then with_held k t true else k)
 
 -- a thread is completed or terminated, which it may be already
-abbrev pub ended : Kernel → ℕ → State → Kernel
-ended k t state =
-    if is_over (thread k t).state then k
-    else record (with_thread k t (record (thread k t) { state = state; held = false })) {
+abbrev pub ended_now : Kernel → ℕ → State → Kernel
+ended_now k t state =
+    record (with_thread k t (record (thread k t) { state = state; held = false })) {
       ready = (if is_ready k.ready t then unreadied k.ready t else k.ready);
     }
+
+abbrev pub ended : Kernel → ℕ → State → Kernel
+ended k t state = if is_over (thread k t).state then k else ended_now k t state
 
 -- a thread that is over begins anew, as it was created
 abbrev pub reset : Kernel → ℕ → Kernel

@@ -6,12 +6,14 @@ use Rattle.tx_types.specs.declared.state.State.TheVariants.{Completed, Terminate
 use Rattle.object_grants.specs.Slot.{is_in}
 use Rattle.object_grants.specs.Table.{slot, after_allocate, after_deallocate, after_grant}
 use Rattle.object_grants.specs.declared.slot.SlotState.TheVariants.{Live}
-use Rattle.ready_maps.specs.Moves.{yielded}
-use Rattle.kernel_state.specs.Kernel.{thread, with_thread, is_thread}
+use Rattle.ready_maps.specs.Moves.{unreadied, yielded}
+use Rattle.ready_maps.specs.Sched.{is_ready}
+use Rattle.kernel_state.specs.Kernel.{thread, is_thread}
+use Rattle.kernel_state.specs.Laws.{with_both}
 use Rattle.kernel_state.specs.Sound.{IsSound}
-use Rattle.kernel_state.specs.Thread.{is_over, is_state}
+use Rattle.kernel_state.specs.Thread.{is_over, is_state, is_waiting}
 use Rattle.kernel_state.specs.declared.kernel.Kernel.{Kernel}
-use Rattle.thread_calls.specs.Changes.{started, suspended, ended, reset, with_user_threshold, with_user_priority, with_slice}
+use Rattle.thread_calls.specs.Changes.{started, suspended, with_held, ended, reset, with_user_threshold, with_user_priority, with_slice}
 
 abbrev pub StartKeepsSound : Type 0
 StartKeepsSound =
@@ -32,7 +34,13 @@ ResetKeepsSound =
 -- a suspension that was held is lifted
 abbrev pub LiftKeepsSound : Type 0
 LiftKeepsSound =
-    (k : Kernel) (t : ℕ) → IsSound k → is_thread k t ≡ true → IsSound (with_thread k t (record (thread k t) { held = false }))
+    (k : Kernel) (t : ℕ) → IsSound k → is_thread k t ≡ true → IsSound (with_held k t false)
+
+-- a ready thread begins to wait
+abbrev pub WaitKeepsSound : Type 0
+WaitKeepsSound =
+    (k : Kernel) (t : ℕ) (state : State) → IsSound k → is_thread k t ≡ true → is_ready k.ready t ≡ true → is_waiting state ≡ true
+    → IsSound (with_both k t (record (thread k t) { state = state; held = false }) (unreadied k.ready t))
 
 abbrev pub ThresholdKeepsSound : Type 0
 ThresholdKeepsSound =

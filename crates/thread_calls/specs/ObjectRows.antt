@@ -1,5 +1,5 @@
 -- The services on object slots, a row each (ThreadX Modules User Guide, "Module APIs": object allocation and search).
-use Rattle.std.specs.Prelude.{ℕ, ◌==◌, List, slice_index, position, if◌then◌else◌}
+use Rattle.std.specs.Prelude.{ℕ, List, position, if◌then◌else◌}
 use Rattle.tx_types.specs.Code.{ptr_error, option_error, no_instance, no_memory}
 use Rattle.tx_types.specs.Kind.{kind_of}
 use Rattle.tx_types.specs.declared.kind.Kind.{Kind}

@@ -2,7 +2,6 @@
 use Rattle.std.specs.Prelude.{ℕ, ◌==◌, false, not, nat_le, nat_lt, List, slice_index, if◌then◌else◌}
 use Rattle.tx_types.specs.Code.{success, thread_error, priority_error, delete_error, resume_error, suspend_error, thresh_error, suspend_lifted, not_done}
 use Rattle.tx_types.specs.declared.kind.Kind.TheVariants.{Thread}
-use Rattle.tx_types.specs.declared.state.State.{State}
 use Rattle.tx_types.specs.declared.state.State.TheVariants.{Completed, Terminated, Suspended}
 use Rattle.call_arguments.specs.Names.{name_at}
 use Rattle.call_arguments.specs.Words.{with_word, with_words}
@@ -10,7 +9,7 @@ use Rattle.object_grants.specs.Table.{ref_of}
 use Rattle.ready_maps.specs.Moves.{yielded}
 use Rattle.region_guard.specs.Memory.{Memory}
 use Rattle.region_guard.specs.declared.region.Access.TheVariants.{Load, Store}
-use Rattle.kernel_state.specs.Kernel.{thread, with_thread, module_of, removed}
+use Rattle.kernel_state.specs.Kernel.{thread, module_of, removed}
 use Rattle.kernel_state.specs.Outcome.{Outcome, answering, answered, done, unless, found, given, refused}
 use Rattle.kernel_state.specs.Tests.{named, reserved, owner_refusal, caller_refusal}
 use Rattle.kernel_state.specs.Thread.{is_over, is_state}
@@ -18,7 +17,7 @@ use Rattle.kernel_state.specs.declared.answer.Answer.TheVariants.{Value, Ended}
 use Rattle.kernel_state.specs.declared.answer.Answer.{Answer}
 use Rattle.kernel_state.specs.declared.answer.Answer.TheVariants.{Code}
 use Rattle.kernel_state.specs.declared.kernel.Kernel.{Kernel}
-use Rattle.thread_calls.specs.Changes.{started, suspended, ended, reset, with_user_threshold, with_user_priority, with_slice, thread_info}
+use Rattle.thread_calls.specs.Changes.{started, suspended, with_held, ended, reset, with_user_threshold, with_user_priority, with_slice, thread_info}
 use Rattle.thread_calls.specs.Create.{block_at, block_refusal, created}
 
 -- argument number i
@@ -55,11 +54,13 @@ thread_suspend_row k g by a =
     found k g thread_error (named k by (arg a 0) Thread) (λ t.
     unless k g (refused (is_over (thread k t).state) suspend_error) (done (suspended k t) g))
 
+-- a suspended thread is started
+unfoldable pub starting : Kernel → Memory → ℕ → Outcome
+starting k g t = unless k g (refused (not (is_state (thread k t).state Suspended)) resume_error) (done (started k t) g)
+
 -- a suspension that is held is lifted; else a suspended thread is started
 unfoldable pub resumption : Kernel → Memory → ℕ → Outcome
-resumption k g t =
-    if (thread k t).held then answered (with_thread k t (record (thread k t) { held = false })) g suspend_lifted
-    else unless k g (refused (not (is_state (thread k t).state Suspended)) resume_error) (done (started k t) g)
+resumption k g t = if (thread k t).held then answered (with_held k t false) g suspend_lifted else starting k g t
 
 unfoldable pub thread_resume_row : Kernel → Memory → ℕ → List ℕ → Outcome
 thread_resume_row k g by a = found k g thread_error (named k by (arg a 0) Thread) (resumption k g)
@@ -75,25 +76,34 @@ thread_info_get_row k g by a =
     found k g thread_error (named k by (arg a 0) Thread) (λ t.
     unless k g (caller_refusal k g by Store (arg a 1) 32) (done k (with_words g (arg a 1) (thread_info k t))))
 
+-- a number of a thread is changed, and the old one written
+unfoldable pub threshold_change : Kernel → Memory → ℕ → ℕ → ℕ → Outcome
+threshold_change k g t new old =
+    unless k g (refused (nat_lt (thread k t).priority new) thresh_error)
+    (done (with_user_threshold k t new) (with_word g old (thread k t).threshold))
+
+unfoldable pub priority_change : Kernel → Memory → ℕ → ℕ → ℕ → Outcome
+priority_change k g t new old =
+    unless k g (refused (nat_le k.ready.levels new) priority_error)
+    (done (with_user_priority k t new) (with_word g old (thread k t).priority))
+
+unfoldable pub slice_change : Kernel → Memory → ℕ → ℕ → ℕ → Outcome
+slice_change k g t new old = done (with_slice k t new) (with_word g old (thread k t).slice)
+
 unfoldable pub thread_preemption_change_row : Kernel → Memory → ℕ → List ℕ → Outcome
 thread_preemption_change_row k g by a =
     found k g thread_error (named k by (arg a 0) Thread) (λ t.
-    unless k g (caller_refusal k g by Store (arg a 2) 4)
-    (unless k g (refused (nat_lt (thread k t).priority (arg a 1)) thresh_error)
-    (done (with_user_threshold k t (arg a 1)) (with_word g (arg a 2) (thread k t).threshold))))
+    unless k g (caller_refusal k g by Store (arg a 2) 4) (threshold_change k g t (arg a 1) (arg a 2)))
 
 unfoldable pub thread_priority_change_row : Kernel → Memory → ℕ → List ℕ → Outcome
 thread_priority_change_row k g by a =
     found k g thread_error (named k by (arg a 0) Thread) (λ t.
-    unless k g (caller_refusal k g by Store (arg a 2) 4)
-    (unless k g (refused (nat_le k.ready.levels (arg a 1)) priority_error)
-    (done (with_user_priority k t (arg a 1)) (with_word g (arg a 2) (thread k t).priority))))
+    unless k g (caller_refusal k g by Store (arg a 2) 4) (priority_change k g t (arg a 1) (arg a 2)))
 
 unfoldable pub thread_time_slice_change_row : Kernel → Memory → ℕ → List ℕ → Outcome
 thread_time_slice_change_row k g by a =
     found k g thread_error (named k by (arg a 0) Thread) (λ t.
-    unless k g (caller_refusal k g by Store (arg a 2) 4)
-    (done (with_slice k t (arg a 1)) (with_word g (arg a 2) (thread k t).slice)))
+    unless k g (caller_refusal k g by Store (arg a 2) 4) (slice_change k g t (arg a 1) (arg a 2)))
 
 unfoldable pub thread_reset_row : Kernel → Memory → ℕ → List ℕ → Outcome
 thread_reset_row k g by a =

@@ -4,8 +4,9 @@ ghost use Rattle.tx_types.specs.declared.state.State.TheVariants.{Completed, Ter
 ghost use Rattle.kernel_state.specs.Kernel.{thread, is_thread};
 ghost use Rattle.kernel_state.specs.Sound.{IsSound};
 ghost use Rattle.kernel_state.specs.Thread.{is_over, is_state};
-ghost use Rattle.thread_calls.specs.Changes.{started, suspended, ended, reset};
-ghost use Rattle.thread_calls.specs.ThreadRows.{resumption};
+ghost use Rattle.thread_calls.specs.Changes.{started, suspended, suspended_at_once, with_held, ended, ended_now, reset};
+ghost use Rattle.ready_maps.specs.Sched.{is_ready};
+ghost use Rattle.thread_calls.specs.ThreadRows.{resumption, starting};
 
 use crate::laws::a_change_of_state_keeps_sound;
 use kernel_state::{Answer, Kernel, is_over, is_waiting};
@@ -38,11 +39,26 @@ pub(crate) fn suspend(k: &mut Kernel, t: ThreadNo)
     a_change_of_state_keeps_sound();
     let state = k.state(t);
     if state == State::Ready {
-        k.thread_mut(t).state = State::Suspended;
-        k.ready.unready(t);
+        suspend_at_once(k, t);
     } else if is_waiting(state) {
-        k.thread_mut(t).held = true;
+        set_held(k, t, true);
     }
+}
+
+/// Suspends a ready thread.
+fn suspend_at_once(k: &mut Kernel, t: ThreadNo)
+    requires ready { is_ready k.old.ready t ≡ true }
+    ensures { k.new ≡ suspended_at_once k.old t }
+{
+    k.thread_mut(t).state = State::Suspended;
+    k.ready.unready(t);
+}
+
+/// A suspension is held until the end of a wait, or isn't any more.
+fn set_held(k: &mut Kernel, t: ThreadNo, held: bool)
+    ensures { k.new ≡ with_held k.old t held }
+{
+    k.thread_mut(t).held = held;
 }
 
 /// Ends a thread, by the state COMPLETED or TERMINATED; nothing changes where it is over already.
@@ -56,12 +72,19 @@ pub fn end_thread(k: &mut Kernel, g: &mut Guard, t: ThreadNo, state: State)
 {
     a_change_of_state_keeps_sound();
     if !is_over(k.state(t)) {
-        let thread = k.thread_mut(t);
-        thread.state = state;
-        thread.held = false;
-        if k.ready.is_ready(t) {
-            k.ready.unready(t);
-        }
+        end_now(k, t, state);
+    }
+}
+
+/// Ends a thread that isn't over.
+fn end_now(k: &mut Kernel, t: ThreadNo, state: State)
+    ensures { k.new ≡ ended_now k.old t state }
+{
+    let thread = k.thread_mut(t);
+    thread.state = state;
+    thread.held = false;
+    if k.ready.is_ready(t) {
+        k.ready.unready(t);
     }
 }
 
@@ -76,12 +99,37 @@ pub fn resume_object(k: &mut Kernel, g: &mut Guard, o: ObjNo) -> Code
     ensures answer { Answer.Code result ≡ (resumption k.old g.old o).answer }
     ensures sound { IsSound k.new }
 {
-    a_change_of_state_keeps_sound();
     if k.thread(o).held {
-        k.thread_mut(o).held = false;
+        lift(k, o);
         Code::SUSPEND_LIFTED
-    } else if k.state(o) == State::Suspended {
-        start_thread(k, o);
+    } else {
+        start_suspended(k, g, o)
+    }
+}
+
+/// Lifts a suspension that is held.
+fn lift(k: &mut Kernel, t: ThreadNo)
+    requires sound { IsSound k.old }
+    requires live { is_thread k.old t ≡ true }
+    ensures after { k.new ≡ with_held k.old t false }
+    ensures sound { IsSound k.new }
+{
+    a_change_of_state_keeps_sound();
+    set_held(k, t, false);
+}
+
+/// Starts a thread. RESUME_ERROR comes where it isn't suspended.
+#[tactic(auto, unfolding(crate::specs::ThreadRows::starting))]
+fn start_suspended(k: &mut Kernel, g: &Guard, t: ThreadNo) -> Code
+    requires sound { IsSound k.old }
+    requires live { is_thread k.old t ≡ true }
+    ensures kernel { k.new ≡ (starting k.old g.now t).kernel }
+    ensures memory { g.now ≡ (starting k.old g.now t).memory }
+    ensures answer { Answer.Code result ≡ (starting k.old g.now t).answer }
+    ensures sound { IsSound k.new }
+{
+    if k.state(t) == State::Suspended {
+        start_thread(k, t);
         Code::SUCCESS
     } else {
         Code::RESUME_ERROR

@@ -1,15 +1,16 @@
 //! Each change that a service makes keeps a kernel sound: each function's contract is a law.
-ghost use Rattle.thread_calls.specs.Laws.{StartKeepsSound, SuspendKeepsSound, EndKeepsSound, ResetKeepsSound, LiftKeepsSound, ThresholdKeepsSound, PriorityKeepsSound, SliceKeepsSound, YieldKeepsSound, AllocateKeepsSound, DeallocateKeepsSound, GrantKeepsSound};
+ghost use Rattle.thread_calls.specs.Laws.{StartKeepsSound, SuspendKeepsSound, EndKeepsSound, ResetKeepsSound, LiftKeepsSound, WaitKeepsSound, ThresholdKeepsSound, PriorityKeepsSound, SliceKeepsSound, YieldKeepsSound, AllocateKeepsSound, DeallocateKeepsSound, GrantKeepsSound};
 
 use kernel_state::laws::{a_kernel_stays_sound, a_move_leaves_others_alone};
 
-/// Starting, suspending, ending and resetting a thread, and lifting a suspension.
+/// Starting, suspending, ending and resetting a thread, lifting a suspension, and beginning to wait.
 pub fn a_change_of_state_keeps_sound()
     ensures start { StartKeepsSound }
     ensures suspend { SuspendKeepsSound }
     ensures ending { EndKeepsSound }
     ensures reset { ResetKeepsSound }
     ensures lift { LiftKeepsSound }
+    ensures wait { WaitKeepsSound }
 {
     a_kernel_stays_sound();
     a_move_leaves_others_alone();

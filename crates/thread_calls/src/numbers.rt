@@ -1,9 +1,10 @@
 //! The services that tell and change a thread's numbers (ThreadX User Guide, "Thread Services").
 ghost use Rattle.std.specs.Prelude.{◌≡◌, ◌≤◌, ◌<◌, Some, true};
-ghost use Rattle.kernel_state.specs.Kernel.{thread, is_thread};
+ghost use Rattle.region_guard.specs.Memory.{may};
+ghost use Rattle.kernel_state.specs.Kernel.{thread, is_thread, module_of};
 ghost use Rattle.kernel_state.specs.Sound.{IsSound};
 ghost use Rattle.thread_calls.specs.Changes.{with_user_threshold, with_user_priority, with_slice, thread_info};
-ghost use Rattle.thread_calls.specs.ThreadRows.{thread_info_get_row, thread_preemption_change_row, thread_priority_change_row, thread_time_slice_change_row};
+ghost use Rattle.thread_calls.specs.ThreadRows.{threshold_change, priority_change, slice_change, thread_info_get_row, thread_preemption_change_row, thread_priority_change_row, thread_time_slice_change_row};
 
 use crate::laws::a_change_of_numbers_keeps_sound;
 use call_arguments::{put_word, put_words};
@@ -49,13 +50,35 @@ pub fn thread_preemption_change(k: &mut Kernel, g: &mut Guard, by: ThreadNo, a: 
     if let Some(refusal) = k.caller_refusal(g, by, Access::Store, a[2], 4) {
         return Answer::Code(refusal);
     }
+    change_threshold(k, g, by, t, a[1], a[2])
+}
+
+/// Changes a thread's threshold, and writes the old one.
+#[tactic(auto, unfolding(crate::specs::ThreadRows::threshold_change))]
+fn change_threshold(
+    k: &mut Kernel,
+    g: &mut Guard,
+    by: ThreadNo,
+    t: ThreadNo,
+    new: u32,
+    to: u32,
+) -> Answer
+    requires sound { IsSound k.old }
+    requires live { is_thread k.old t ≡ true }
+    requires allowed { may g.old (module_of k.old by) Access.Store to 4 ≡ true }
+    ensures kernel { k.new ≡ (threshold_change k.old g.old t new to).kernel }
+    ensures memory { g.new ≡ (threshold_change k.old g.old t new to).memory }
+    ensures answer { result ≡ (threshold_change k.old g.old t new to).answer }
+    ensures sound { IsSound k.new }
+{
+    let m = k.module_of(by);
     let thread = k.thread(t);
-    if a[1] > u32::from(thread.priority.number()) {
+    if new > u32::from(thread.priority.number()) {
         return Answer::Code(Code::THRESH_ERROR);
     }
     let old = u32::from(thread.threshold.number());
-    set_user_threshold(k, t, Thresh::new(a[1] as u16));
-    put_word(g, k.module_of(by), a[2], old);
+    set_user_threshold(k, t, Thresh::new(new as u16));
+    put_word(g, m, to, old);
     Answer::Code(Code::SUCCESS)
 }
 
@@ -76,12 +99,34 @@ pub fn thread_priority_change(k: &mut Kernel, g: &mut Guard, by: ThreadNo, a: &A
     if let Some(refusal) = k.caller_refusal(g, by, Access::Store, a[2], 4) {
         return Answer::Code(refusal);
     }
-    if a[1] >= u32::from(k.priorities()) {
+    change_priority(k, g, by, t, a[1], a[2])
+}
+
+/// Changes a thread's priority, and writes the old one.
+#[tactic(auto, unfolding(crate::specs::ThreadRows::priority_change))]
+fn change_priority(
+    k: &mut Kernel,
+    g: &mut Guard,
+    by: ThreadNo,
+    t: ThreadNo,
+    new: u32,
+    to: u32,
+) -> Answer
+    requires sound { IsSound k.old }
+    requires live { is_thread k.old t ≡ true }
+    requires allowed { may g.old (module_of k.old by) Access.Store to 4 ≡ true }
+    ensures kernel { k.new ≡ (priority_change k.old g.old t new to).kernel }
+    ensures memory { g.new ≡ (priority_change k.old g.old t new to).memory }
+    ensures answer { result ≡ (priority_change k.old g.old t new to).answer }
+    ensures sound { IsSound k.new }
+{
+    if new >= u32::from(k.priorities()) {
         return Answer::Code(Code::PRIORITY_ERROR);
     }
+    let m = k.module_of(by);
     let old = u32::from(k.thread(t).priority.number());
-    set_user_priority(k, t, Prio::new(a[1] as u16));
-    put_word(g, k.module_of(by), a[2], old);
+    set_user_priority(k, t, Prio::new(new as u16));
+    put_word(g, m, to, old);
     Answer::Code(Code::SUCCESS)
 }
 
@@ -102,9 +147,31 @@ pub fn thread_time_slice_change(k: &mut Kernel, g: &mut Guard, by: ThreadNo, a: 
     if let Some(refusal) = k.caller_refusal(g, by, Access::Store, a[2], 4) {
         return Answer::Code(refusal);
     }
+    change_slice(k, g, by, t, a[1], a[2])
+}
+
+/// Changes a thread's time slice, and writes the old one.
+#[tactic(auto, unfolding(crate::specs::ThreadRows::slice_change))]
+fn change_slice(
+    k: &mut Kernel,
+    g: &mut Guard,
+    by: ThreadNo,
+    t: ThreadNo,
+    new: u32,
+    to: u32,
+) -> Answer
+    requires sound { IsSound k.old }
+    requires live { is_thread k.old t ≡ true }
+    requires allowed { may g.old (module_of k.old by) Access.Store to 4 ≡ true }
+    ensures kernel { k.new ≡ (slice_change k.old g.old t new to).kernel }
+    ensures memory { g.new ≡ (slice_change k.old g.old t new to).memory }
+    ensures answer { result ≡ (slice_change k.old g.old t new to).answer }
+    ensures sound { IsSound k.new }
+{
+    let m = k.module_of(by);
     let old = k.thread(t).slice;
-    set_slice(k, t, a[1]);
-    put_word(g, k.module_of(by), a[2], old);
+    set_slice(k, t, new);
+    put_word(g, m, to, old);
     Answer::Code(Code::SUCCESS)
 }
 

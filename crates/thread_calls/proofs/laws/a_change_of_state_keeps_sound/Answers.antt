@@ -1,4 +1,4 @@
-use Rattle.thread_calls.proofs.StateChanges.{start_keeps_sound, suspend_keeps_sound, end_keeps_sound, reset_keeps_sound, lift_keeps_sound}
+use Rattle.thread_calls.proofs.StateChanges.{start_keeps_sound, suspend_keeps_sound, end_keeps_sound, reset_keeps_sound, lift_keeps_sound, wait_keeps_sound}
 use Rattle.thread_calls.proofs.laws.a_change_of_state_keeps_sound.Goals as goal
 
 pub returns : goal.returns
@@ -11,4 +11,5 @@ returns c =
       ending = end_keeps_sound changes moves.unready;
       reset = reset_keeps_sound changes;
       lift = lift_keeps_sound changes;
+      wait = wait_keeps_sound changes moves.unready;
     }
