@@ -1,0 +1,3 @@
+pub mod ThreadList
+pub mod Wait
+pub mod Waits

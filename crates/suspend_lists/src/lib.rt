@@ -1,0 +1,18 @@
+//! Who waits where, in order, for what and since which wait; and how many waits began and ended.
+//!
+//! A place is a kernel object or the callback queue of a module; a sleeper waits at none. What a wait
+//! that ends leaves behind, and when it times out, stands elsewhere.
+#![tactic(auto)]
+
+mod thread_list;
+mod wait;
+mod waits;
+
+pub use wait::{Asks, On, Pending, Wait};
+pub use waits::Waits;
+
+/// How many places there are: 256 objects, and the callback queues of 16 modules.
+pub const PLACES: usize = 272;
+
+/// How many threads there are at most.
+pub const THREADS: usize = 256;

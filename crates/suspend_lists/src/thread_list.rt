@@ -1,0 +1,107 @@
+//! The threads that wait at one place, in order.
+//!
+//! A list has room for every thread from the start, and takes no memory afterwards.
+ghost use Rattle.std.specs.Prelude.{◌≡◌, ◌<◌, ◌==◌, ◌++◌, ◌∷◌, [], true, length, position, IfOk, slice_get, vec_len, vec_capacity};
+ghost use Rattle.suspend_lists.specs.ThreadList.{has, without, next_after};
+
+use std::alloc::Global;
+use std::marker::Model;
+use tx_types::{NoMemory, ThreadNo};
+
+/// Threads in order.
+#[derive(Drop)]
+pub(crate) struct ThreadList {
+    threads: Vec<ThreadNo>,
+}
+
+impl Model for ThreadList {
+    ghost use Rattle.std.specs.Prelude.{ℕ, List, ◌≤◌, vec_capacity};
+
+    ghost Value = { List ℕ };
+
+    ghost view = { λ l. l.threads.items };
+
+    ghost invariant = { λ l. 256 ≤ vec_capacity l.threads };
+}
+
+impl ThreadList {
+    /// No thread.
+    pub(crate) fn new(alloc: Global) -> Result<ThreadList, NoMemory>
+        ensures { IfOk result (λ l. l ≡ []) }
+    {
+        let threads = Vec::with_capacity(alloc, 256)?;
+        Ok(ThreadList { threads })
+    }
+
+    /// The first thread.
+    pub(crate) fn first(&self) -> Option<ThreadNo>
+        ensures { result ≡ slice_get self.now 0 }
+    {
+        self.threads.first().copied()
+    }
+
+    /// The next thread after thread t.
+    pub(crate) fn after(&self, t: ThreadNo) -> Option<ThreadNo>
+        ensures { result ≡ next_after t self.now }
+    {
+        first_after(&self.threads, t)
+    }
+
+    /// Thread t goes last.
+    pub(crate) fn push(&mut self, t: ThreadNo)
+        requires room { length self.old < 256 }
+        ensures { self.new ≡ self.old ++ t ∷ [] }
+    {
+        self.threads.push_reserved(t);
+    }
+
+    /// Thread t leaves, and the others keep their order.
+    pub(crate) fn take_out(&mut self, t: ThreadNo)
+        ensures { self.new ≡ without t self.old }
+    {
+        take_out(&mut self.threads, t);
+    }
+
+    /// Thread t goes first, and the others keep their order.
+    pub(crate) fn to_front(&mut self, t: ThreadNo)
+        requires there { has t self.old ≡ true }
+        ensures { self.new ≡ t ∷ without t self.old }
+    {
+        take_out(&mut self.threads, t);
+        put_first(&mut self.threads, t);
+    }
+}
+
+/// The place of a thread in a list.
+fn place_of(threads: &[ThreadNo], t: ThreadNo) -> Option<usize>
+    ensures { result ≡ position (λ u. t == u) threads.now }
+{
+    threads.iter().position(|u| t == *u)
+}
+
+/// The next thread after thread t.
+fn first_after(threads: &[ThreadNo], t: ThreadNo) -> Option<ThreadNo>
+    ensures { result ≡ next_after t threads.now }
+{
+    match place_of(threads, t) {
+        Some(at) => threads[at + 1..].first().copied(),
+        None => None,
+    }
+}
+
+/// Takes a thread out.
+fn take_out(threads: &mut Vec<ThreadNo>, t: ThreadNo)
+    ensures items { threads.new.items ≡ without t threads.old.items }
+    ensures same_room { vec_capacity threads.new ≡ vec_capacity threads.old }
+{
+    threads.retain(|u| t != *u);
+}
+
+/// Puts a thread in first.
+fn put_first(threads: &mut Vec<ThreadNo>, t: ThreadNo)
+    requires room { vec_len threads.old < vec_capacity threads.old }
+    ensures items { threads.new.items ≡ t ∷ threads.old.items }
+    ensures same_room { vec_capacity threads.new ≡ vec_capacity threads.old }
+{
+    let _ = threads.insert(0, t);
+}
