@@ -24,7 +24,7 @@ use Rattle.suspend_lists.proofs.Lists.{has-without, has-push, distinct-without, 
 abbrev pub is_at : Option ℕ → ℕ → Bool
 is_at o q = option_map_or (λ p. p == q) o false
 
-at_Some : (o : Option ℕ) (q : ℕ) → is_at o q ≡ true → o ≡ Some q
+pub at_Some : (o : Option ℕ) (q : ℕ) → is_at o q ≡ true → o ≡ Some q
 at_Some None q here = absurd (cc)
 at_Some (Some p) q here = ap Some (eqb-true p q here)
 
@@ -66,7 +66,7 @@ abbrev number_in : Option Pending → Option ℕ
 number_in o = option_map (λ p. p.number) o
 
 -- a thread that waits is one of the 256
-some_within : (waits : List (Option Pending)) (t : ℕ) → IsSome (slice_index_or waits t None) → t < length waits
+pub some_within : (waits : List (Option Pending)) (t : ℕ) → IsSome (slice_index_or waits t None) → t < length waits
 some_within waits t some = ⊎_elim (λ inside. inside) (λ past. absurd (cc (get_or_past waits t None past))) (cases_lt t (length waits))
 
 -- a thread that waits at a place waits at one of the 272
@@ -112,10 +112,10 @@ room_at w t o table low none =
 
 -- how many wait
 
-abbrev weight : Option Pending → ℕ
+abbrev pub weight : Option Pending → ℕ
 weight o = cond (is_some o) 1 0
 
-weight_some : (o : Option Pending) → IsSome o → weight o ≡ 1
+pub weight_some : (o : Option Pending) → IsSome o → weight o ≡ 1
 weight_some None some = absurd (cc)
 weight_some (Some x) some = refl
 
@@ -125,14 +125,14 @@ one_waits w t some =
     let least = get_or-le-sum_by weight w.waits t None (some_within w.waits t some) in
     omega arith
 
-ended_more : (x : Totals) (e : End) → ended_count (counted x e) ≡ ended_count x + 1
+pub ended_more : (x : Totals) (e : End) → ended_count (counted x e) ≡ ended_count x + 1
 ended_more x Satisfied = omega arith
 ended_more x TimedOut = omega arith
 ended_more x Aborted = omega arith
 ended_more x Deleted = omega arith
 ended_more x Gone = omega arith
 
-begun_stays : (x : Totals) (e : End) → (counted x e).begun ≡ x.begun
+pub begun_stays : (x : Totals) (e : End) → (counted x e).begun ≡ x.begun
 begun_stays x Satisfied = refl
 begun_stays x TimedOut = refl
 begun_stays x Aborted = refl

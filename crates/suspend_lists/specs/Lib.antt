@@ -1,3 +1,4 @@
+pub mod Laws
 pub mod ThreadList
 pub mod Wait
 pub mod Waits

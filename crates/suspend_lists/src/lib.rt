@@ -4,10 +4,15 @@
 //! that ends leaves behind, and when it times out, stands elsewhere.
 #![tactic(auto)]
 
+mod laws;
 mod thread_list;
 mod wait;
 mod waits;
 
+pub use laws::{
+    begun_is_pending_and_ended, calls_keep_the_table, each_thread_waits_once,
+    no_number_is_given_twice,
+};
 pub use wait::{Asks, On, Pending, Wait};
 pub use waits::Waits;
 

@@ -1,0 +1,112 @@
+-- What holds over all calls of a table of waits.
+use Rattle.std.specs.Prelude.{ℕ, ◌≡◌, ◌≢◌, ◌+◌, ◌<◌, ◌≤◌, ◌==◌, nat_eq, nat_lt, Bool, true, false, List, [], ◌∷◌, ◌++◌, count_by, Option, None, Some, IfSome, IsSome, if◌then◌else◌, option_to_list, ⊤}
+use Rattle.std.specs.List.{IsDistinct}
+use Rattle.std.specs.Option.{option_map_or}
+use Rattle.tx_types.specs.declared.waits.End.{End}
+use Rattle.tx_types.specs.declared.waits.Totals.{Totals}
+use Rattle.suspend_lists.specs.ThreadList.{has}
+use Rattle.suspend_lists.specs.Wait.{place, place_count}
+use Rattle.suspend_lists.specs.Waits.{WaitTable, IsTable, IsFreeNumber, new_table, waiters, pending, number_of, place_of, restored, begun, ended, put_first, pending_count, ended_count}
+use Rattle.suspend_lists.specs.declared.wait.Pending.{Pending}
+use Rattle.suspend_lists.specs.declared.wait.Wait.{Wait}
+
+-- the calls by which waits begin, end and change their order
+pub data Call : Type 0 where
+  Begin : (t : ℕ) (x : Wait) → Call
+  Finish : (t : ℕ) (e : End) → Call
+  ToFront : (t : ℕ) → Call
+
+abbrev pub called : WaitTable → Call → WaitTable
+called w (Begin t x) = begun w t x
+called w (Finish t e) = ended w t e
+called w (ToFront t) = put_first w t
+
+-- when a call may be made
+abbrev pub MayCall : WaitTable → Call → Type 0
+MayCall w (Begin t x) = (t < 256) × (pending w t ≡ None) × IfSome (place x.on) (λ p. p < place_count)
+MayCall w (Finish t e) = IsSome (pending w t)
+MayCall w (ToFront t) = IsSome (place_of w t)
+
+-- a list of calls, each of which may be made in its turn
+abbrev pub all_called : WaitTable → List Call → WaitTable
+all_called w [] = w
+all_called w (c ∷ cs) = all_called (called w c) cs
+
+abbrev pub MayCallAll : WaitTable → List Call → Type 0
+MayCallAll w [] = ⊤
+MayCallAll w (c ∷ cs) = MayCall w c × MayCallAll (called w c) cs
+
+-- the numbers of the waits that end, in order
+abbrev pub over_by : WaitTable → Call → List ℕ
+over_by w (Begin t x) = []
+over_by w (Finish t e) = option_to_list (number_of w t)
+over_by w (ToFront t) = []
+
+abbrev pub all_over : WaitTable → List Call → List ℕ
+all_over w [] = []
+all_over w (c ∷ cs) = over_by w c ++ all_over (called w c) cs
+
+-- each call keeps what holds of every table
+abbrev pub CallsKeepTheTable : Type 0
+CallsKeepTheTable = (w : WaitTable) (c : Call) → IsTable w → MayCall w c → IsTable (called w c)
+
+abbrev pub TotalsKeepTheTable : Type 0
+TotalsKeepTheTable =
+    (w : WaitTable) (x : Totals) → IsTable w → w.totals.begun ≡ 0 → ended_count x ≤ x.begun
+    → IsTable (record w { totals = x })
+
+abbrev pub RestoresKeepTheTable : Type 0
+RestoresKeepTheTable =
+    (w : WaitTable) (t : ℕ) (x : Wait) (n : ℕ) → IsTable w → MayCall w (Begin t x) → n < w.totals.begun → IsFreeNumber w n
+    → pending_count w + ended_count w.totals < w.totals.begun → IsTable (restored w t x n)
+
+-- A thread waits at most once: it stands at no second place, once where it stands, and nowhere where it sleeps or
+-- doesn't wait.
+abbrev pub AtOnePlace : Type 0
+AtOnePlace =
+    (w : WaitTable) (p q t : ℕ) → IsTable w → has t (waiters w (Some p)) ≡ true → has t (waiters w (Some q)) ≡ true → p ≡ q
+
+abbrev pub OnceThere : Type 0
+OnceThere = (w : WaitTable) (p : ℕ) → IsTable w → IsDistinct nat_eq (waiters w (Some p))
+
+abbrev pub ElseNowhere : Type 0
+ElseNowhere =
+    (w : WaitTable) (p t : ℕ) → IsTable w → place_of w t ≡ None → has t (waiters w (Some p)) ≡ false
+
+-- how many began is how many are pending and how many ended
+abbrev pub IsWhole : WaitTable → Type 0
+IsWhole w = pending_count w + ended_count w.totals ≡ w.totals.begun
+
+abbrev pub CallsKeepItWhole : Type 0
+CallsKeepItWhole = (w : WaitTable) (c : Call) → IsTable w → MayCall w c → IsWhole w → IsWhole (called w c)
+
+-- how often a number stands in a list, and how many threads are in the wait of that number
+abbrev pub times : ℕ → List ℕ → ℕ
+times n ns = count_by (λ m. m == n) ns
+
+abbrev pub has_number : ℕ → Option Pending → Bool
+has_number n o = option_map_or (λ p. p.number == n) o false
+
+abbrev pub pending_times : WaitTable → ℕ → ℕ
+pending_times w n = count_by (has_number n) w.waits
+
+-- Each number below how many began is that of one pending wait, or of one that ended; no other number is of either.
+abbrev pub IsAccounted : WaitTable → List ℕ → Type 0
+IsAccounted w over =
+    (n : ℕ) → pending_times w n + times n over ≡ (if nat_lt n w.totals.begun then 1 else 0)
+
+abbrev pub CallsAccount : Type 0
+CallsAccount =
+    (w : WaitTable) (over : List ℕ) (c : Call) → IsTable w → MayCall w c → IsAccounted w over
+    → IsAccounted (called w c) (over ++ over_by w c)
+
+-- whatever was called since a table was new
+abbrev pub HistoriesAccount : Type 0
+HistoriesAccount =
+    (cs : List Call) → MayCallAll new_table cs → IsAccounted (all_called new_table cs) (all_over new_table cs)
+
+-- the number that the next wait gets is of no pending wait and of none that ended
+abbrev pub NextNumberIsNew : Type 0
+NextNumberIsNew =
+    (w : WaitTable) (over : List ℕ) → IsAccounted w over
+    → (pending_times w w.totals.begun ≡ 0) × (times w.totals.begun over ≡ 0)

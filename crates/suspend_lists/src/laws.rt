@@ -1,0 +1,31 @@
+//! What holds of every table of waits, for the layers above: each function's contract is a law.
+ghost use Rattle.suspend_lists.specs.Laws.{CallsKeepTheTable, TotalsKeepTheTable, RestoresKeepTheTable, AtOnePlace, OnceThere, ElseNowhere, IsWhole, CallsKeepItWhole, CallsAccount, HistoriesAccount, NextNumberIsNew};
+ghost use Rattle.suspend_lists.specs.Waits.{IsTable, new_table};
+
+/// Each call keeps what holds of every table.
+pub fn calls_keep_the_table()
+    ensures new { IsTable new_table }
+    ensures calls { CallsKeepTheTable }
+    ensures totals { TotalsKeepTheTable }
+    ensures restores { RestoresKeepTheTable }
+{}
+
+/// A thread waits at most once.
+pub fn each_thread_waits_once()
+    ensures at_one_place { AtOnePlace }
+    ensures once_there { OnceThere }
+    ensures else_nowhere { ElseNowhere }
+{}
+
+/// How many waits began is how many are pending and how many ended in each way.
+pub fn begun_is_pending_and_ended()
+    ensures new { IsWhole new_table }
+    ensures calls { CallsKeepItWhole }
+{}
+
+/// A number is given to one wait alone, which is pending until it ends once.
+pub fn no_number_is_given_twice()
+    ensures calls { CallsAccount }
+    ensures histories { HistoriesAccount }
+    ensures next { NextNumberIsNew }
+{}
