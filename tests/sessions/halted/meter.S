@@ -17,6 +17,5 @@ done:
     suspend
     j meter
 name:
-    .asciz "meter"
-    .balign 4
+    name "meter"
 end:

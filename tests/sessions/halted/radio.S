@@ -26,6 +26,5 @@ again:
     sw a0, 32(gp)
     j .
 name:
-    .asciz "meter"
-    .balign 4
+    name "meter"
 end:

@@ -73,6 +73,5 @@ other:
     count 8
     call THREAD_COMPLETE
 name:
-    .asciz "a-name-of-exactly-31-bytes-abcd"
-    .balign 4
+    name "a-name-of-exactly-31-bytes-abcd"
 end:

@@ -22,6 +22,5 @@ y:
     count 84
     j y
 y_name:
-    .asciz "y"
-    .balign 4
+    name "y"
 end:

@@ -31,10 +31,9 @@ d:
     suspend
     j d
 b_name:
-    .asciz "b"
+    name "b"
 c_name:
-    .asciz "c"
+    name "c"
 d_name:
-    .asciz "d"
-    .balign 4
+    name "d"
 end:
