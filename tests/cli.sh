@@ -567,8 +567,12 @@ if command -v riscv64-unknown-elf-as >"$work/out" && command -v make >"$work/out
     mkdir -p "$work/again/examples" "$work/again/tests"
     cp -r "$top/examples/asm" "$work/again/examples" && cp -r "$top/tests/sessions" "$work/again/tests"
     expect 'the images of the sessions are their sources' 0 '' make -s -C "$work/again/tests/sessions" compare
+    expect 'the images of examples/asm are their sources' 0 '' make -s -B -C "$work/again/examples/asm"
+    for name in meter radio; do
+        expect "the image $name of examples/asm" 0 '' cmp "$top/examples/asm/$name.img" "$work/again/examples/asm/$name.img"
+    done
 else
-    skipped 'the images of the sessions are their sources: there is no riscv64-unknown-elf-as'
+    skipped 'the images in assembly are their sources: there is no riscv64-unknown-elf-as'
 fi
 
 # ---- Words
