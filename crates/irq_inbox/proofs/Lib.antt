@@ -1,0 +1,4 @@
+pub mod Passes
+pub mod Steps
+pub mod Views
+pub mod Words

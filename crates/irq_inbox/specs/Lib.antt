@@ -1,0 +1,3 @@
+pub mod Rule
+pub mod Seen
+pub mod Words
