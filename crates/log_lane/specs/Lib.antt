@@ -1,0 +1,3 @@
+pub mod Getter
+pub mod Rule
+pub mod Seen
