@@ -1,5 +1,5 @@
 #!/usr/bin/env python3
-"""Writes the images of three loops into a folder: loops.py FOLDER. Each loop runs for ever."""
+"""Writes the images of four loops into a folder: loops.py FOLDER. Each loop runs for ever."""
 import pathlib
 import struct
 import sys
@@ -34,6 +34,14 @@ def branch(funct3, rs1, rs2, imm):
     return (
         (imm >> 12 & 1) << 31 | (imm >> 5 & 0x3F) << 25 | rs2 << 20 | rs1 << 15
         | funct3 << 12 | (imm >> 1 & 0xF) << 8 | (imm >> 11 & 1) << 7 | 0x63
+    )
+
+
+def jump(rd, imm):
+    """JAL."""
+    return (
+        (imm >> 20 & 1) << 31 | (imm >> 1 & 0x3FF) << 21 | (imm >> 11 & 1) << 20
+        | (imm >> 12 & 0xFF) << 12 | rd << 7 | 0x6F
     )
 
 
@@ -104,11 +112,19 @@ DIVISION = looped(
     ],
 )
 
-LOOPS = {"arithmetic": ARITHMETIC, "memory": MEMORY, "division": DIVISION}
+# A counter in the data: it is loaded, raised and stored.
+COUNTING = [
+    load(2, B, GP, 8),  # lw
+    addi(B, B, 1),
+    store(2, B, GP, 8),  # sw
+    jump(ZERO, -12),
+]
+
+LOOPS = {"counting": COUNTING, "arithmetic": ARITHMETIC, "memory": MEMORY, "division": DIVISION}
 
 
 def image(code):
-    """The bytes of an image with this code behind its preamble."""
+    """The bytes of an image with this code after its preamble."""
     words = HEAD + [128 + 4 * len(code), DATA_SIZE] + 16 * [0] + code
     return struct.pack(f"<{len(words)}I", *words)
 

@@ -1,8 +1,8 @@
 #!/usr/bin/env bash
 # Compares the speed of `txboard replay` on a board of one module with that of `txboard hart` on the same
-# image, and both with the plain C interpreter bench/hart.c, on the three loops of bench/loops.py and on a
-# module that counts in its data. It prints the millions of steps in a second of processor time, the best of
-# some runs that take turns, and what part of the rate of `hart` that of `replay` is, and of the C that of `hart`.
+# image, and both with the plain C interpreter bench/hart.c, on the four loops of bench/loops.py. It prints the
+# millions of steps in a second of processor time, the best of some runs that take turns, and what part of the
+# rate of `hart` that of `replay` is, and of the C that of `hart`.
 # The registers in the report must be those that `hart` prints.
 # Not a part of the gate. It says "skipped" and passes where gcc or python3 is missing, or the program isn't
 # built.
@@ -15,13 +15,6 @@ runs="${1:-10}"
 most="${2:-100000000}"
 
 cd "$work"
-# LW x6,8(x3); ADDI x6,x6,1; SW x6,8(x3); JAL x0,-12 behind the preamble of the others
-python3 - <<'PYTHON'
-import struct
-head = [0x4D4F4455, 6, 0, 32, 1, 3, 128, 128, 0, 10, 256, 0, 0, 0, 128 + 16, 64] + 16 * [0]
-code = [0x0081A303, 0x00130313, 0x0061A423, 0xFF5FF06F]
-open("counting.img", "wb").write(struct.pack("<36I", *head, *code))
-PYTHON
 printf 'S %s\n' "$most" >log
 
 printf '%-12s %10s %10s %10s %14s %10s\n' loop replay hart C replay/hart hart/C
