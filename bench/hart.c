@@ -273,7 +273,7 @@ static bool is_entry(uint32_t word, uint32_t size)
     return word % 4 == 0 && word >= PREAMBLE && word < size;
 }
 
-/* Lays the image at the start of RAM, its data region behind it, and sets the opening registers. The
+/* Lays the image at the start of RAM, its data region after it, and sets the opening registers. The
    preamble is checked for what the layout needs, and no more. */
 static void place(struct machine *m, const uint8_t *image, size_t length)
 {

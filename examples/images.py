@@ -20,7 +20,7 @@ IMAGES = {
 
 
 def image(code):
-    """The bytes of an image with this code behind its preamble."""
+    """The bytes of an image with this code after its preamble."""
     words = HEAD + [128 + 4 * len(code), DATA_SIZE] + 16 * [0] + code
     return struct.pack(f"<{len(words)}I", *words)
 

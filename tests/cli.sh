@@ -546,7 +546,7 @@ expect 'a closed output: a session' 4 '' from "$top" to_none replay examples/two
 expect 'a reader that has gone: a session' 4 '' from "$top" to_gone replay examples/two.board.toml examples/two.log
 expect 'a reader of one line of a session' 0 'S 20' from "$top" first_line replay examples/two.board.toml examples/two.log
 
-# ---- Sessions: a board, a log, and the whole text that is due, as tests/sessions/README.md tells
+# ---- Sessions: a board, a log, and the whole text that is due, as tests/sessions/README.md describes
 
 session() { expect "session: $1" 0 "$(cat "$2/$5")" from "$2" "$txboard" replay "$3" "$4"; }
 for log in "$top"/tests/sessions/*/*.log; do

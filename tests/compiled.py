@@ -28,7 +28,7 @@ def numbers():
 
 
 def image(code, start):
-    """The bytes of an image with this code behind its preamble."""
+    """The bytes of an image with this code after its preamble."""
     head = [0x4D4F4455, 6, 0, 32, 1, 3, 128, start - BASE, 0, 10, STACK, 0, 0, 0, CODE_SIZE, DATA_SIZE]
     return (struct.pack("<32I", *head, *16 * [0]) + code).ljust(CODE_SIZE, b"\0")
 

@@ -25,7 +25,7 @@ def number(service):
 
 
 def back(instructions):
-    """JAL x0 to so many instructions before."""
+    """JAL x0 to the instruction that many before."""
     offset = -4 * instructions
     return (offset >> 20 & 1) << 31 | (offset >> 1 & 0x3FF) << 21 | (offset >> 11 & 1) << 20 | (offset >> 12 & 0xFF) << 12 | 0x6F
 

@@ -1,7 +1,7 @@
 """Cases for against_qemu.sh: random RV32IM programs as one static executable, and the listing of what they
 left in memory.
 
-The programs stand one behind the other. Each loads all its registers, executes its instructions, and stores
+The programs stand one after another. Each loads all its registers, executes its instructions, and stores
 all its registers; one of them holds the address of its buffer throughout. Jumps and branches stay inside the
 program and end, and loads and stores stay inside the buffer. After the last program one write(2) gives all
 data. In the data each program has the values that its registers start from, its buffer, and the registers

@@ -2,7 +2,7 @@
 """Proves and builds the program and the crates below it, for ./txboard.
 
 Crates are checked side by side, each once those that it uses are done, those with the longest chain above them first. All
-processors work: what no other crate waits for goes to the first as more jobs. A line on standard error tells each crate that is
+processors work: what no other crate waits for goes to the first as more jobs. A line on standard error names each crate that is
 done. What is done is kept, so a run that was interrupted goes on where it stopped. Crates of tests alone are left out.
 """
 import os
