@@ -8,6 +8,3 @@ mod rows;
 
 pub use parts::{end_line, put_name, put_words};
 pub use report::{lines, report_line};
-
-#[cfg(test)]
-mod tests;

@@ -11,6 +11,3 @@ mod service;
 
 pub use ecall::dispatch;
 pub use service::Service;
-
-#[cfg(test)]
-mod tests;

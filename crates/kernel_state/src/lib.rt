@@ -17,6 +17,3 @@ pub use spot::{Spot, Spots};
 pub use state::{is_over, is_waiting};
 pub use thread::{Thread, ThreadSpec};
 pub use threads::Threads;
-
-#[cfg(test)]
-mod tests;

@@ -13,6 +13,3 @@ mod start;
 
 pub use manager::Manager;
 pub use modules::{Fault, Module, ModuleState};
-
-#[cfg(test)]
-mod tests;

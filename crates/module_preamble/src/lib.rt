@@ -9,8 +9,6 @@ ghost use Rattle.module_preamble.specs.Preamble.{preamble, IsAccepted};
 
 mod refusal;
 mod rules;
-#[cfg(test)]
-mod tests;
 mod words;
 
 pub use refusal::PreErr;

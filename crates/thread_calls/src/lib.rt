@@ -21,6 +21,3 @@ pub use threads::{
     thread_complete, thread_delete, thread_identify, thread_relinquish, thread_reset,
     thread_resume, thread_suspend, thread_terminate,
 };
-
-#[cfg(test)]
-mod tests;

@@ -2,7 +2,7 @@
 ghost use Rattle.std.specs.Prelude.{◌≡◌, ◌≤◌, All, IsTrue, length};
 ghost use Rattle.board_report.specs.Printable.{IsNumbers, IsPrintable};
 
-use crate::{lines, report_line};
+use board_report::{lines, report_line};
 use board_values::{
     DeviceRow, DeviceRows, FaultRow, ModuleRow, ModuleRows, Nums, ObjectRow, ObjectRows, Report,
     Rows, ShowRow, ShowRows, ThreadRow, ThreadRows, Totals,

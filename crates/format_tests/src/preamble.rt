@@ -1,10 +1,10 @@
 //! Images made by hand from one accepted module, each with a word or two changed, or cut or grown.
 
-use crate::PreErr::{
+use byteorder::{ByteOrder, LittleEndian};
+use module_preamble::PreErr::{
     BadCode, BadData, BadEntry, BadId, BadMajor, BadPrio, BadProps, BadSize, BadStack, Short,
 };
-use crate::{PreErr, Preamble, read};
-use byteorder::{ByteOrder, LittleEndian};
+use module_preamble::{PreErr, Preamble, read};
 
 /// A preamble of 32 words, one instruction, and a word more for an image that is grown.
 const MODULE: [u32; 34] = [

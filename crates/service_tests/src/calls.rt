@@ -1,0 +1,24 @@
+//! The number of a call: those that name no service.
+
+use crate::names::FEATURE_NOT_ENABLED;
+use crate::pair::{DATA, play};
+use crate::steps::Step;
+use std::test::Fail;
+
+/// Numbers below, between and above those of the services, and two whose low byte is one of theirs.
+const NO_SERVICES: &[u32] = &[0x00, 0x05, 0x0F, 0x92, 0xFF, 0x117, 0x100_0001, u32::MAX];
+
+/// The caller's a0 alone changes.
+const REFUSED: &[Step] = &[
+    Step::Sets(5, 9),
+    Step::Each(NO_SERVICES, [1, DATA, DATA], FEATURE_NOT_ENABLED),
+    Step::Register(0, 5, 9),
+    Step::Register(0, 11, DATA),
+    Step::Words(0, DATA, &[0]),
+    Step::Runs(Some(0)),
+];
+
+#[test]
+fn a_number_without_a_row_is_refused(rt: HostRuntime) -> Result<(), Fail> {
+    play(&rt, rt.alloc(), &[REFUSED])
+}
