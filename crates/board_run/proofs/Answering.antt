@@ -6,14 +6,14 @@ use Rattle.board_run.specs.Answer.{Answers, Completes}
 use Rattle.board_run.specs.Command.{Row, row_of}
 use Rattle.board_run.specs.Due.{Due, due, due_of, row_due, row_text, usage_line}
 use Rattle.board_run.specs.Ending.{Ends, EndsStopped}
-use Rattle.board_run.specs.Faults.{Rose}
+use Rattle.board_io.specs.Faults.{Rose}
 use Rattle.board_run.specs.Reading.{Stops}
-use Rattle.board_run.specs.Sink.{Wrote}
+use Rattle.board_io.specs.Sink.{Wrote}
 use Rattle.board_run.specs.Step.{◌>>=◌}
 use Rattle.board_run.specs.declared.refusal.Stop.{Stop}
 use Rattle.board_run.specs.declared.refusal.Stop.TheVariants.{ReadFault, Refused, NoMemory}
-use Rattle.board_run.specs.declared.status.Status.{Status}
-use Rattle.board_run.specs.declared.status.Status.TheVariants.{Done, Usage, ReadFault as StatusReadFault, Refused as StatusRefused, WriteFault, NoMemory as StatusNoMemory}
+use Rattle.board_io.specs.declared.status.Status.{Status}
+use Rattle.board_io.specs.declared.status.Status.TheVariants.{Done, Usage, ReadFault as StatusReadFault, Refused as StatusRefused, WriteFault, NoMemory as StatusNoMemory}
 
 -- a status that comes with its whole text
 pub data IsWhole : Status → Type 0 where

@@ -3,7 +3,7 @@ use Rattle.std.proofs.Common.{◌≡◌, ℕ, ◌+◌, ◌<◌, ◌≤◌, List,
 use Rattle.std.specs.Option.{option_map}
 use Rattle.std.proofs.lemmas.List.{take_all, length-take}
 use Rattle.std.proofs.lemmas.Bool.Decides.{nat_tests}
-use Rattle.board_run.specs.Files.{IsFrontOf}
+use Rattle.board_io.specs.Files.{IsFrontOf}
 use Rattle.board_run.specs.Held.{held_file, within}
 use Rattle.board_run.specs.Step.{◌>>=◌}
 use Rattle.board_run.specs.declared.refusal.Refusal.{Refusal}

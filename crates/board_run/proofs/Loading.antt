@@ -6,7 +6,7 @@ use Rattle.std.specs.Result.{IsErrAnd}
 use Rattle.board_file.specs.declared.board.Board.{Board}
 use Rattle.board_file.specs.declared.board.BoardModule.{BoardModule}
 use Rattle.board_run.specs.Boards.{board_at, images_at, loaded_at}
-use Rattle.board_run.specs.Faults.{Rose}
+use Rattle.board_io.specs.Faults.{Rose}
 use Rattle.board_run.specs.Held.{image_at}
 use Rattle.board_run.specs.Reading.{Gives, Stops}
 use Rattle.board_run.specs.Step.{◌>>=◌, each}

@@ -5,7 +5,7 @@ use Rattle.board_file.specs.declared.board.BoardModule.{BoardModule}
 use Rattle.module_loader.specs.declared.placement.Placed.{Placed}
 use Rattle.module_loader.specs.declared.want.Want.{Want}
 use Rattle.board_run.specs.Check.{module_line, modules_text}
-use Rattle.board_run.specs.Sink.{Wrote}
+use Rattle.board_io.specs.Sink.{Wrote}
 use Rattle.board_run.proofs.Writing.{wrote_more, wrote_part}
 
 -- the lines from a place on begin with that of the module there

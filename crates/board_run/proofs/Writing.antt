@@ -5,7 +5,7 @@ use Rattle.std.proofs.lemmas.Bool.{false≢true}
 use Rattle.std.proofs.Math.Seq.{take-append-add}
 use Rattle.std.proofs.KnownBytes.{Appends-trans}
 use Rattle.std.specs.Io.KnownBytes.{Appends}
-use Rattle.board_run.specs.Sink.{AppendsFront, Wrote}
+use Rattle.board_io.specs.Sink.{AppendsFront, Wrote}
 
 take-min : (x y : List ℕ) (n : ℕ) → take (min n (length x)) (x ++ y) ≡ take n x
 take-min [] y n = grind (arith, common_steps)

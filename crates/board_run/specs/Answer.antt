@@ -4,9 +4,9 @@ use Rattle.std.specs.Io.KnownBytes.{Appends, Keeps}
 use Rattle.board_run.specs.Command.{Row}
 use Rattle.board_run.specs.Due.{Due, usage_line}
 use Rattle.board_run.specs.Ending.{Ends}
-use Rattle.board_run.specs.Sink.{AppendsFront}
-use Rattle.board_run.specs.declared.status.Status.{Status}
-use Rattle.board_run.specs.declared.status.Status.TheVariants.{Done, Usage, ReadFault, Refused, WriteFault, NoMemory}
+use Rattle.board_io.specs.Sink.{AppendsFront}
+use Rattle.board_io.specs.declared.status.Status.{Status}
+use Rattle.board_io.specs.declared.status.Status.TheVariants.{Done, Usage, ReadFault, Refused, WriteFault, NoMemory}
 
 -- The status due, with its text written whole. Or a fault of reading, with nothing written; a fault of
 -- writing, with a front of the text written; or want of memory, with nothing written. The two facts say

@@ -14,8 +14,8 @@ use Rattle.board_run.specs.Step.{◌>>=◌}
 use Rattle.board_run.specs.declared.hart.Ran.{Ran}
 use Rattle.board_run.specs.declared.refusal.Stop.{Stop}
 use Rattle.board_run.specs.declared.refusal.Stop.TheVariants.{ReadFault, Refused, NoMemory}
-use Rattle.board_run.specs.declared.status.Status.{Status}
-use Rattle.board_run.specs.declared.status.Status.TheVariants.{Done, Usage, ReadFault as StatusReadFault, Refused as StatusRefused, NoMemory as StatusNoMemory}
+use Rattle.board_io.specs.declared.status.Status.{Status}
+use Rattle.board_io.specs.declared.status.Status.TheVariants.{Done, Usage, ReadFault as StatusReadFault, Refused as StatusRefused, NoMemory as StatusNoMemory}
 
 -- the run of an image that lies alone, for at most so many instructions
 unfoldable pub image_ran : ℕ → List ℕ → Result Ran Stop

@@ -2,11 +2,11 @@
 use Rattle.std.specs.Prelude.{◌≡◌, ◌⊎◌, ℕ, List, Option}
 use Rattle.std.specs.Io.KnownBytes.{Appends, Keeps}
 use Rattle.board_run.specs.Refusal.{refusal_line}
-use Rattle.board_run.specs.Sink.{AppendsFront}
+use Rattle.board_io.specs.Sink.{AppendsFront}
 use Rattle.board_run.specs.declared.refusal.Stop.{Stop}
 use Rattle.board_run.specs.declared.refusal.Stop.TheVariants.{ReadFault, Refused, NoMemory}
-use Rattle.board_run.specs.declared.status.Status.{Status}
-use Rattle.board_run.specs.declared.status.Status.TheVariants.{ReadFault as StatusReadFault, Refused as StatusRefused, WriteFault, NoMemory as StatusNoMemory}
+use Rattle.board_io.specs.declared.status.Status.{Status}
+use Rattle.board_io.specs.declared.status.Status.TheVariants.{ReadFault as StatusReadFault, Refused as StatusRefused, WriteFault, NoMemory as StatusNoMemory}
 
 -- with a status, the text written whole; or with a fault of writing, a front of it written
 abbrev pub Ends : (sink_rose : Type 0) → (old new : Option (List ℕ)) → List ℕ → Status → Status → Type 0

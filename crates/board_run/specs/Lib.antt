@@ -3,11 +3,8 @@ pub mod Answer
 pub mod Boards
 pub mod Check
 pub mod Command
-pub mod Distinct
 pub mod Due
 pub mod Ending
-pub mod Faults
-pub mod Files
 pub mod Hart
 pub mod Held
 pub mod Laws
@@ -16,6 +13,4 @@ pub mod Reading
 pub mod Refusal
 pub mod Refused
 pub mod Replay
-pub mod Sink
-pub mod Status
 pub mod Step

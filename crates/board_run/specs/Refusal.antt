@@ -4,8 +4,8 @@ use Rattle.board_report.specs.Parts.{graphic, newline}
 use Rattle.tx_types.specs.Line.{hex}
 use Rattle.module_preamble.specs.Refusal.{name_of, number_of, word_of}
 use Rattle.module_preamble.specs.declared.refusal.PreErr.{PreErr}
-use Rattle.board_run.specs.declared.files.ReadErr.{ReadErr}
-use Rattle.board_run.specs.declared.files.ReadErr.TheVariants.{Failed, Missing, NoMemory}
+use Rattle.board_io.specs.declared.files.ReadErr.{ReadErr}
+use Rattle.board_io.specs.declared.files.ReadErr.TheVariants.{Failed, Missing, NoMemory}
 use Rattle.board_run.specs.declared.refusal.Refusal.{Refusal}
 use Rattle.board_run.specs.declared.refusal.Refusal.TheVariants.{BoardTooLarge, NotToml, Field, ImageTooLarge, LogTooLarge, LogLine, Image, Room}
 use Rattle.board_run.specs.declared.refusal.Stop.{Stop}

@@ -6,15 +6,15 @@ ghost use Rattle.std.specs.Option.{option_map};
 ghost use Rattle.board_file.specs.Answer.{board_in};
 ghost use Rattle.board_file.specs.Rules.{IsBoard};
 ghost use Rattle.board_run.specs.Boards.{IsLoaded, board_at, images_at, loaded_at};
-ghost use Rattle.board_run.specs.Faults.{Rose};
+ghost use Rattle.board_io.specs.Faults.{Rose};
 ghost use Rattle.board_run.specs.Reading.{Gives, GivesHere};
 ghost use Rattle.board_run.specs.Refused.{refused_board};
 
-use crate::files::Files;
 use crate::images::Images;
 use crate::reading::{file_of, image_of};
 use crate::refusal::{Refusal, Stop};
 use board_file::{Board, BoardErr, BoardModule, read_board};
+use board_io::Files;
 use std::alloc::Global;
 
 /// The most bytes that a board file may have.

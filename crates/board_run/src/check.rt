@@ -3,18 +3,17 @@ ghost use Rattle.std.specs.Prelude.{◌≡◌, ◌≤◌, ◌<◌, length, map, 
 ghost use Rattle.std.specs.Option.{option_map};
 ghost use Rattle.board_run.specs.Boards.{IsLoaded};
 ghost use Rattle.board_run.specs.Check.{IsWhole, want_in, checked, checked_at, module_line, modules_text, check_text};
-ghost use Rattle.board_run.specs.Faults.{Rose};
+ghost use Rattle.board_io.specs.Faults.{Rose};
 ghost use Rattle.board_run.specs.Reading.{Gives, GivesHere};
-ghost use Rattle.board_run.specs.Sink.{Wrote};
+ghost use Rattle.board_io.specs.Sink.{Wrote};
 ghost use Rattle.board_run.specs.Step.{each};
 
 use crate::boards::{Loaded, load_board};
-use crate::files::Files;
 use crate::images::preamble_of;
 use crate::placing::placed;
 use crate::refusal::Stop;
-use crate::sink::{Sink, WriteErr};
 use board_file::{Board, BoardModule, BoardModules};
+use board_io::{Files, Sink, WriteErr};
 use board_report::{end_line, put_name};
 use board_values::Rows;
 use module_loader::{Placed, Want, want_of};

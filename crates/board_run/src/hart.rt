@@ -5,18 +5,17 @@ ghost use Rattle.std.specs.Prelude.{◌≡◌, ◌+◌, ◌≤◌, ◌++◌, len
 ghost use Rattle.std.specs.Option.{option_map};
 ghost use Rattle.arrayvec.specs.ArrayString.{array_string_len};
 ghost use Rattle.board_run.specs.Due.{image_ran, hart_ran};
-ghost use Rattle.board_run.specs.Faults.{Rose};
+ghost use Rattle.board_io.specs.Faults.{Rose};
 ghost use Rattle.board_run.specs.Reading.{Gives, GivesHere};
-ghost use Rattle.board_run.specs.Sink.{Wrote};
+ghost use Rattle.board_io.specs.Sink.{Wrote};
 ghost use Rattle.board_run.specs.Hart.{memory_ran, hart_text, end_text, steps_line, pc_line, regs_line};
 
 use crate::alone::{RAM_ALONE, memory_alone, place_alone};
-use crate::files::Files;
 use crate::images::preamble_of;
 use crate::reading::{MOST_IMAGE, image_of};
 use crate::refusal::Stop;
-use crate::sink::{Sink, WriteErr};
 use board_core::burst;
+use board_io::{Files, Sink, WriteErr};
 use board_report::{end_line, put_words};
 use module_loader::opening;
 use region_guard::Guard;

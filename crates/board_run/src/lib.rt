@@ -1,14 +1,12 @@
-//! The command line: its words, the files it reads, the sink it writes to, and how it ends.
+//! The command line: its words, what is due for them, what it reads and writes, and how it ends.
 //!
-//! Files and sinks are traits, so that what is read and written can be held in memory and told in
-//! contracts. Both count their faults: a call that failed by the outside shows it by a higher count.
+//! Files and sinks are the traits of `board_io`, whose names are handed on here.
 #![tactic(auto)]
 
 mod alone;
 mod boards;
 mod check;
 mod command;
-mod files;
 mod hart;
 mod images;
 pub mod laws;
@@ -16,13 +14,11 @@ mod placing;
 mod reading;
 mod refusal;
 mod replay;
-mod sink;
-mod status;
 mod still;
 
+pub use board_io::{
+    Files, Gate, MemFiles, MemSink, OpenGate, ReadErr, Sink, Status, SureSink, WriteErr,
+};
 pub use command::{Command, command_of};
-pub use files::{Files, MemFiles, ReadErr};
 pub use refusal::Refusal;
-pub use sink::{MemSink, Sink, SureSink, WriteErr};
-pub use status::Status;
 pub use still::board_still;

@@ -1,12 +1,12 @@
 //! Files read whole, and refused where they are too large.
 ghost use Rattle.std.specs.Prelude.{◌≡◌, ◌≤◌, ◌<◌, ◌^◌, length, IfOk};
 ghost use Rattle.std.specs.Option.{option_map};
-ghost use Rattle.board_run.specs.Faults.{Rose};
+ghost use Rattle.board_io.specs.Faults.{Rose};
 ghost use Rattle.board_run.specs.Held.{file_at, image_at};
 ghost use Rattle.board_run.specs.Reading.{Gives};
 
-use crate::files::Files;
 use crate::refusal::{Refusal, Stop};
+use board_io::Files;
 use std::alloc::Global;
 
 /// The most bytes that an image may have.

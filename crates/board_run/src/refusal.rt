@@ -5,8 +5,8 @@ ghost use Rattle.std.specs.Prelude.{◌≡◌, ◌<◌, ◌++◌, map, decimal, 
 ghost use Rattle.board_report.specs.Parts.{graphic};
 ghost use Rattle.board_run.specs.Refusal.{refusal_line, refusal_text, rule_text, stop_of, want_of_memory};
 
-use crate::files::ReadErr;
 use board_file::Path;
+use board_io::ReadErr;
 use itoa::Buffer;
 use module_preamble::PreErr;
 use std::alloc::{AllocError, AllocFailed, Global};

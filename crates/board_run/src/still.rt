@@ -4,16 +4,14 @@ ghost use Rattle.board_run.specs.Answer.{Answers, Settles, Always, Completes};
 ghost use Rattle.board_run.specs.Command.{Hart, Check, Replay, row_of};
 ghost use Rattle.board_run.specs.Due.{due, row_text, due_of};
 ghost use Rattle.board_run.specs.Ending.{Ends, EndsStopped};
-ghost use Rattle.board_run.specs.Faults.{Rose};
+ghost use Rattle.board_io.specs.Faults.{Rose};
 
 use crate::check::{check_board, write_check};
 use crate::command::{Command, command_of};
-use crate::files::Files;
 use crate::hart::{hart_ran, write_hart};
 use crate::refusal::{Refusal, Stop};
 use crate::replay::{replay_log, write_session};
-use crate::sink::{Sink, WriteErr};
-use crate::status::Status;
+use board_io::{Files, Sink, Status, WriteErr};
 use std::alloc::Global;
 
 /// The line that says how the program is called.

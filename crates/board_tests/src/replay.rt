@@ -3,8 +3,8 @@
 //! The read and the write behind the last that is due are to fail, which shows that none is made.
 ghost use Rattle.std.specs.Prelude.{IfOk, IsTrue};
 ghost use Rattle.std.specs.Str.{bytes_eq};
-ghost use Rattle.board_run.specs.Distinct.{all_differ};
-ghost use Rattle.board_run.specs.Files.{names};
+ghost use Rattle.board_io.specs.Distinct.{all_differ};
+ghost use Rattle.board_io.specs.Files.{names};
 
 use crate::samples::{Disk, HEAD, answers, file, image};
 use board_run::Status;

@@ -1,8 +1,8 @@
 //! What tests are made of: words, and images whose fields stand here.
 ghost use Rattle.std.specs.Prelude.{◌≡◌, IfOk, IsTrue, string_bytes};
 ghost use Rattle.std.specs.Str.{bytes_eq};
-ghost use Rattle.board_run.specs.Distinct.{all_differ};
-ghost use Rattle.board_run.specs.Files.{names};
+ghost use Rattle.board_io.specs.Distinct.{all_differ};
+ghost use Rattle.board_io.specs.Files.{names};
 
 use board_run::{MemFiles, MemSink, Status, board_still};
 use std::alloc::{AllocError, Global};

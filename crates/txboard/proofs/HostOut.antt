@@ -5,7 +5,7 @@ use Rattle.std.proofs.lemmas.List.{take_rest}
 use Rattle.std.proofs.Math.Seq.{take-append_seam}
 use Rattle.std.proofs.KnownBytes.{Appends-trans, Appends-kept}
 use Rattle.std.specs.Io.KnownBytes.{Appends, Keeps}
-use Rattle.board_run.specs.Sink.{AppendsFront}
+use Rattle.board_io.specs.Sink.{AppendsFront}
 use Rattle.txboard.specs.HostOut.{AppendsPiece}
 
 -- some front of the piece was appended, and this rest of it was not

@@ -1,8 +1,8 @@
 -- The count of faults of reading.
 use Rattle.std.specs.Prelude.{ℕ, Result, Ok, Err}
-use Rattle.board_run.specs.Faults.{risen}
-use Rattle.board_run.specs.declared.files.ReadErr.{ReadErr}
-use Rattle.board_run.specs.declared.files.ReadErr.TheVariants.{Failed, Missing, NoMemory}
+use Rattle.board_io.specs.Faults.{risen}
+use Rattle.board_io.specs.declared.files.ReadErr.{ReadErr}
+use Rattle.board_io.specs.declared.files.ReadErr.TheVariants.{Failed, Missing, NoMemory}
 
 -- the count after a read: one more after each fault, of which want of memory is none
 abbrev pub count_read : {T : Type 0} → ℕ → Result T ReadErr → ℕ

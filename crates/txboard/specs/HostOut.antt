@@ -1,8 +1,8 @@
 -- A piece that is written whole or in part, and the count of faults of writing.
 use Rattle.std.specs.Prelude.{ℕ, List, Option, Result, Ok, Err}
 use Rattle.std.specs.Io.KnownBytes.{Appends}
-use Rattle.board_run.specs.Faults.{risen}
-use Rattle.board_run.specs.Sink.{AppendsFront}
+use Rattle.board_io.specs.Faults.{risen}
+use Rattle.board_io.specs.Sink.{AppendsFront}
 
 -- the piece was appended whole, or a front of it where the write failed
 abbrev pub AppendsPiece : {T E : Type 0} → (old new : Option (List ℕ)) → (piece : List ℕ) → Result T E → Type 0

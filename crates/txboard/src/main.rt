@@ -7,7 +7,7 @@
 
 ghost use Rattle.std.specs.Prelude.{◌≡◌};
 ghost use Rattle.std.specs.Process.{exit_status};
-ghost use Rattle.board_run.specs.Status.{number_of};
+ghost use Rattle.board_io.specs.Status.{number_of};
 
 mod host_files;
 mod host_out;

@@ -1,8 +1,8 @@
 -- What the trait says of a read, by the count after it; nothing is told of what is held.
 use Rattle.std.proofs.Common.{◌≡◌, ℕ, Result, Ok, Err, IfOk, IsErrOf, ap, ◌∙◌, arith, refl}
-use Rattle.board_run.specs.Faults.{Rose}
-use Rattle.board_run.specs.declared.files.ReadErr.{ReadErr}
-use Rattle.board_run.specs.declared.files.ReadErr.TheVariants.{Failed, Missing}
+use Rattle.board_io.specs.Faults.{Rose}
+use Rattle.board_io.specs.declared.files.ReadErr.{ReadErr}
+use Rattle.board_io.specs.declared.files.ReadErr.TheVariants.{Failed, Missing}
 use Rattle.txboard.specs.HostFiles.{count_read}
 use Rattle.txboard.proofs.host_files.HostFilesFiles.TheImpl.Goals as goal
 

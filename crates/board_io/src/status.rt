@@ -1,6 +1,6 @@
 //! How a command ends: the status that the process exits with.
 ghost use Rattle.std.specs.Prelude.{◌≡◌};
-ghost use Rattle.board_run.specs.Status.{number_of};
+ghost use Rattle.board_io.specs.Status.{number_of};
 
 /// How a command ended: its text was written whole; the words are no command; a file couldn't be read;
 /// its content was refused; the text couldn't be written whole; memory ran out.

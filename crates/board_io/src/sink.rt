@@ -1,10 +1,10 @@
 //! Where the command line writes its text, piece by piece.
 //!
-//! A piece is appended whole, or the write fails: then a front of the piece is appended and the count
+//! A piece is appended whole, or the write fails: then a prefix of the piece is appended and the count
 //! of faults is higher, a count that never falls.
-ghost use Rattle.std.specs.Prelude.{◌≡◌, ℕ, ◌≤◌, List, [], map, Option, None, Some, IsTrue, is_err, nat_eq};
-ghost use Rattle.board_run.specs.Distinct.{all_differ};
-ghost use Rattle.board_run.specs.Sink.{Wrote, kept_by, kept_next, AppendsKept, after_write};
+ghost use Rattle.std.specs.Prelude.{◌≡◌, ℕ, ◌≤◌, List, [], map, Option, None, Some, IsTrue, is_err, nat_eq, vec_capacity};
+ghost use Rattle.board_io.specs.Distinct.{all_differ};
+ghost use Rattle.board_io.specs.Sink.{Wrote, kept_by, kept_next, AppendsKept, after_write};
 
 use std::alloc::Global;
 use std::marker::Model;
@@ -23,8 +23,8 @@ pub trait Sink {
     /// How many writes had a fault; it stands still at its type's end.
     ghost faults: { Self → ℕ };
 
-    /// Appends the piece whole. `Failed` comes only with a new fault, and then a front of the piece is
-    /// appended.
+    /// Appends the piece whole. `Failed` comes only with a new fault, and then a prefix of the piece
+    /// is appended.
     fn write(&mut self, bytes: &[u8]) -> Result<(), WriteErr>
         ensures counted { faults self.old ≤ faults self.new }
         ensures wrote { Wrote (faults self.old) (faults self.new) (written self.old) (written self.new)
@@ -45,8 +45,8 @@ impl Sink for SureSink {
     }
 }
 
-/// A sink in memory. The writes whose numbers were given, counted from 1, fail and keep a front of
-/// their piece.
+/// A sink in memory. The writes whose numbers were given, counted from 1, fail and keep a prefix of
+/// their piece. A write that finds no memory fails too, and keeps nothing.
 #[derive(Drop)]
 pub struct MemSink {
     written: Vec<u8>,
@@ -56,12 +56,14 @@ pub struct MemSink {
 }
 
 impl Model for MemSink {
-    ghost use Rattle.board_run.specs.Sink.{SinkInMemory};
+    ghost use Rattle.std.specs.Prelude.{vec_capacity};
+    ghost use Rattle.board_io.specs.Sink.{SinkInMemory};
 
     ghost Value = { SinkInMemory };
 
     ghost view = { λ s.
-        record { written = s.written.items; fails = s.fails.items; writes = s.writes; faults = s.faults } };
+        record { written = s.written.items; room = vec_capacity s.written; fails = s.fails.items;
+            writes = s.writes; faults = s.faults } };
 }
 
 impl MemSink {
@@ -69,7 +71,7 @@ impl MemSink {
     /// the first j bytes of its piece, or the whole piece where it has fewer; the numbers k differ.
     pub fn new(alloc: Global, fails: Vec<(u32, u32)>) -> MemSink
         requires { IsTrue (all_differ nat_eq (map (λ fail. fail.0) fails.items)) }
-        ensures { result ≡ record { written = []; fails = fails.items; writes = 0; faults = 0 } }
+        ensures { result ≡ record { written = []; room = 0; fails = fails.items; writes = 0; faults = 0 } }
     {
         MemSink {
             written: Vec::new(alloc),
@@ -94,8 +96,9 @@ impl Sink for MemSink {
 
     fn write(&mut self, bytes: &[u8]) -> Result<(), WriteErr>
         ensures counted { self.old.faults ≤ self.new.faults }
-        ensures after { self.new ≡ after_write self.old self.new.written (is_err result) }
-        ensures wrote { AppendsKept (kept_next self.old)
+        ensures after { self.new ≡ after_write self.old self.new.written self.new.room (is_err result) }
+        ensures room { self.old.room ≤ self.new.room }
+        ensures wrote { AppendsKept (kept_next self.old) self.old.room
             self.old.written self.new.written bytes.now result }
     {
         self.writes = self.writes.saturating_add(1);
@@ -118,7 +121,9 @@ fn kept(fails: &[(u32, u32)], number: u64) -> Option<u32>
 }
 
 fn append(written: &mut Vec<u8>, kept: Option<u32>, piece: &[u8]) -> Result<(), WriteErr>
-    ensures { AppendsKept kept written.old.items written.new.items piece.now result }
+    ensures room { vec_capacity written.old ≤ vec_capacity written.new }
+    ensures kept { AppendsKept kept (vec_capacity written.old)
+        written.old.items written.new.items piece.now result }
 {
     let Some(kept) = kept else {
         return written

@@ -3,9 +3,9 @@ use Rattle.std.specs.Prelude.{◌≡◌, ℕ, ◌+◌, ◌==◌, Bool, true, fal
 use Rattle.std.specs.Global.{Global, Vec}
 use Rattle.std.specs.List.{list_any}
 use Rattle.std.specs.Str.{bytes_eq}
-use Rattle.board_run.specs.declared.files.ReadErr.{ReadErr}
-use Rattle.board_run.specs.declared.files.ReadErr.TheVariants.{Failed, Missing, NoMemory}
-use Rattle.board_run.specs.Faults.{risen}
+use Rattle.board_io.specs.declared.files.ReadErr.{ReadErr}
+use Rattle.board_io.specs.declared.files.ReadErr.TheVariants.{Failed, Missing, NoMemory}
+use Rattle.board_io.specs.Faults.{risen}
 
 -- the file is held, and these are the first max + 1 of its bytes, or all of them where there are fewer
 abbrev pub IsFrontOf : Option (List ℕ) → ℕ → List ℕ → Type 0

@@ -6,9 +6,9 @@ ghost use Rattle.std.specs.Prelude.{◌≡◌, ℕ, ◌+◌, ◌^◌, ◌<◌, �
 ghost use Rattle.std.specs.List.{list_any};
 ghost use Rattle.std.specs.Option.{option_copied};
 ghost use Rattle.std.specs.Str.{bytes_eq};
-ghost use Rattle.board_run.specs.Distinct.{all_differ};
-ghost use Rattle.board_run.specs.Faults.{Rose};
-ghost use Rattle.board_run.specs.Files.{IsFrontOf, IsMissing, held_by, fails_next, after_read, ReadAnswers, named, names};
+ghost use Rattle.board_io.specs.Distinct.{all_differ};
+ghost use Rattle.board_io.specs.Faults.{Rose};
+ghost use Rattle.board_io.specs.Files.{IsFrontOf, IsMissing, held_by, fails_next, after_read, ReadAnswers, named, names};
 
 use std::alloc::Global;
 use std::marker::Model;
@@ -52,8 +52,8 @@ pub struct MemFiles {
 }
 
 impl Model for MemFiles {
-    ghost use Rattle.board_run.specs.Files.{FilesInMemory};
-    ghost use Rattle.board_run.specs.Files.{named};
+    ghost use Rattle.board_io.specs.Files.{FilesInMemory};
+    ghost use Rattle.board_io.specs.Files.{named};
 
     ghost Value = { FilesInMemory };
 

@@ -1,8 +1,8 @@
 -- The files before the index have another name.
 use Rattle.std.proofs.Common.{◌≡◌, drop}
-use Rattle.board_run.specs.Files.{held_by}
-use Rattle.board_run.specs.Files.{named}
-use Rattle.board_run.proofs.files.bytes_under.Given as goal
+use Rattle.board_io.specs.Files.{held_by}
+use Rattle.board_io.specs.Files.{named}
+use Rattle.board_io.proofs.files.bytes_under.Given as goal
 
 abbrev pub invariant-loop-held : goal.invariant-loop-held
 invariant-loop-held l = held_by (named (drop l.held-index l.files)) l.name ≡ held_by (named l.files) l.name

@@ -1,0 +1,16 @@
+//! The outside as the command line sees it: files that are read, a sink that is written, a gate that
+//! delays devices, and the status that a call ends with.
+//!
+//! These are traits, so that what is read and written can be held in memory and told in contracts. Files
+//! and sinks count their faults: a call that failed by the outside shows it by a higher count.
+#![tactic(auto)]
+
+mod files;
+mod gate;
+mod sink;
+mod status;
+
+pub use files::{Files, MemFiles, ReadErr};
+pub use gate::{Gate, OpenGate};
+pub use sink::{MemSink, Sink, SureSink, WriteErr};
+pub use status::Status;
