@@ -28,6 +28,3 @@ pub const MOST_STEPS: u32 = 100_000_000;
 
 /// The most interrupts that a history may have.
 pub const MOST_IRQS: u32 = 65_536;
-
-#[cfg(test)]
-mod tests;
