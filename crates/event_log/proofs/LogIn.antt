@@ -246,6 +246,26 @@ read-true devices bytes before rest (line ∷ lines) few h text is =
           (read-true devices bytes (before ++ good.0 ∷ []) begin.0 lines few good.1 behind (sym begin.2))
     ]
 
+-- what is read of a text, on a board with any number of devices, has that text
+read-text : (devices : ℕ) (bytes : List ℕ) (before : List Entry) (rest : List ℕ) (lines : List (List ℕ)) (es : List Entry)
+    → bytes ≡ text_of before ++ rest → lines_of rest ≡ lines → fold (with_line devices) (Ok before) lines ≡ Ok es → bytes ≡ text_of es
+read-text devices bytes before rest [] es text is read =
+    let empty : rest ≡ [] = subst (Begins rest) is (begins rest) in
+    let same : before ≡ es = cc in
+    text ∙ ap (λ xs. text_of before ++ xs) empty ∙ append-nil (text_of before) ∙ ap text_of same
+read-text devices bytes before rest (line ∷ lines) es text is read =
+    let begin = subst (Begins rest) is (begins rest) in
+    elim (read-line devices before line) [
+      | inl bad ↦
+          let both : Err (length before + 1) ≡ Ok es = sym (read-no-more devices before line lines bad) ∙ read in absurd cc
+      | inr good ↦
+          let after : bytes ≡ text_of (before ++ good.0 ∷ []) ++ begin.0
+          = text ∙ ap (λ xs. text_of before ++ xs) (begin.1 ∙ ap (λ l. l ++ begin.0) good.2)
+          ∙ text-append before good.0 begin.0 in
+          read-text devices bytes (before ++ good.0 ∷ []) begin.0 lines es after (sym begin.2)
+          (sym (ap (λ r. fold (with_line devices) r lines) good.3) ∙ read)
+    ]
+
 pub text-says : (devices : ℕ) (es : List Entry) (bytes : List ℕ) → devices ≤ 16 → IsLogText devices es bytes
     → log_in devices bytes ≡ Ok es
 unfolding log_in
@@ -275,3 +295,7 @@ reads-back devices few es h = text-says devices es (text_of es) few (record { hi
 pub says-true : (devices : ℕ) → SaysTrue devices
 unfolding log_in
 says-true devices few bytes = read-true devices bytes [] bytes (lines_of bytes) few (history-tested devices [] refl) refl refl
+
+pub says-text : (devices : ℕ) (bytes : List ℕ) (es : List Entry) → log_in devices bytes ≡ Ok es → bytes ≡ text_of es
+unfolding log_in
+says-text devices bytes es = read-text devices bytes [] bytes (lines_of bytes) es refl refl

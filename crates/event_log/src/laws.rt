@@ -1,8 +1,8 @@
 //! What holds of every log: each function's contract is a law.
-ghost use Rattle.std.specs.Prelude.{◌≡◌, ℕ, ◌+◌, ◌*◌, ◌^◌, ◌<◌, ◌≤◌, ◌↔◌, List, [], ◌∷◌, ◌++◌, codes, length, map, replicate, true};
+ghost use Rattle.std.specs.Prelude.{◌≡◌, ℕ, ◌+◌, ◌*◌, ◌^◌, ◌<◌, ◌≤◌, ◌↔◌, List, [], ◌∷◌, ◌++◌, codes, length, map, replicate, true, Ok};
 ghost use Rattle.event_log.specs.Events.{Step, Irq, events_of, interrupts, words_in, words_of};
 ghost use Rattle.event_log.specs.Log.{IsHistory, step_count, irq_count, parted, closed, unclosed, with_step, with_steps, with_irq};
-ghost use Rattle.event_log.specs.LogIn.{is_history, lines_of};
+ghost use Rattle.event_log.specs.LogIn.{is_history, lines_of, log_in};
 ghost use Rattle.event_log.specs.Logged.{logged};
 ghost use Rattle.event_log.specs.Reading.{TextsApart, NoBadLine, OneBadLine, ReadsBack, SaysTrue};
 ghost use Rattle.event_log.specs.Text.{line_of, text_of};
@@ -11,13 +11,15 @@ ghost use Rattle.event_log.specs.declared.entry.Entry.TheVariants as entry;
 
 /// A history has the one text that its entries' lines make, and no other history has that text. A
 /// text is that of a history or has a bad line, not both, and one bad line is the first: `log_in`
-/// says which history, or which line.
+/// says which history, or which line, and what it says of bytes has those bytes as its text.
 pub fn each_history_has_one_text()
     ensures apart { (devices : ℕ) → TextsApart devices }
     ensures no_bad_line { (devices : ℕ) → NoBadLine devices }
     ensures one_bad_line { (devices : ℕ) → OneBadLine devices }
     ensures read_back { (devices : ℕ) → ReadsBack devices }
     ensures says_true { (devices : ℕ) → SaysTrue devices }
+    ensures says_its_text { (devices : ℕ) (bytes : List ℕ) (es : List Entry) →
+        log_in devices bytes ≡ Ok es → bytes ≡ text_of es }
 {}
 
 /// A history with one step or one interrupt more is the same events and that one after them, and

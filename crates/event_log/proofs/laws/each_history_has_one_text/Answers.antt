@@ -1,4 +1,4 @@
-use Rattle.event_log.proofs.LogIn.{reads-back, says-true}
+use Rattle.event_log.proofs.LogIn.{reads-back, says-true, says-text}
 use Rattle.event_log.proofs.Unique.{texts-apart, no-bad-line, one-bad-line}
 use Rattle.event_log.proofs.laws.each_history_has_one_text.Goals as goal
 
@@ -16,3 +16,6 @@ returns-clause-read_back c = reads-back
 
 pub returns-clause-says_true : goal.returns-clause-says_true
 returns-clause-says_true c = says-true
+
+pub returns-clause-says_its_text : goal.returns-clause-says_its_text
+returns-clause-says_its_text c = says-text
