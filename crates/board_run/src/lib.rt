@@ -10,6 +10,7 @@ mod command;
 mod hart;
 mod images;
 pub mod laws;
+pub mod logs;
 mod placing;
 mod reading;
 mod refusal;
