@@ -3,6 +3,8 @@ pub mod BurstSteps
 pub mod DataWords
 pub mod Effects
 pub mod Frames
+pub mod Grants
+pub mod Histories
 pub mod Images
 pub mod Laid
 pub mod Lists
@@ -10,6 +12,11 @@ pub mod Loaded
 pub mod LoadingSteps
 pub mod ModuleRegions
 pub mod Names
+pub mod Owned
+pub mod OwnedCalls
+pub mod OwnedHalt
+pub mod OwnedSlots
+pub mod OwnedStart
 pub mod PlacedBoard
 pub mod Preambles
 pub mod Printing

@@ -1,12 +1,12 @@
 -- A machine on which an event is made stands for the run of its history with that event more.
-use Rattle.std.proofs.Common.{◌≡◌, ℕ, ◌+◌, ◌<◌, ◌≤◌, List, [], ◌∷◌, ◌++◌, length, All, refl, sym, ap, ◌∙◌, fold, arith}
+use Rattle.std.proofs.Common.{◌≡◌, ℕ, ◌+◌, ◌<◌, ◌≤◌, List, [], ◌∷◌, ◌++◌, length, All, refl, sym, ap, subst, ◌∙◌, fold, arith}
 use Rattle.std.proofs.lemmas.List.{length-set}
 use Rattle.std.proofs.lemmas.List.Elements.{All-get_or, All-set, All-weaker}
 use Rattle.std.proofs.lemmas.List.Sums.{fold-append}
 use Rattle.board_file.specs.declared.board.Board.{Board}
 use Rattle.board_file.specs.Rules.{IsBoard}
 use Rattle.event_log.specs.Events.{Event, Irq, events_of}
-use Rattle.event_log.specs.Log.{irq_count, step_count}
+use Rattle.event_log.specs.Log.{IsEntry, irq_count, step_count}
 use Rattle.event_log.specs.declared.entry.Entry.{Entry}
 use Rattle.kernel_state.specs.Sound.{IsSound as IsSoundKernel}
 use Rattle.kernel_state.specs.declared.kernel.Kernel.{Kernel}
@@ -15,9 +15,10 @@ use Rattle.region_guard.specs.Memory.{Memory, IsSound as IsSoundMemory}
 use Rattle.rv_core.specs.Execute.{Effect, Completes, Stores, Calls, Faults}
 use Rattle.board_core.specs.Action.{acted, device_of, status_of}
 use Rattle.board_core.specs.Boot.{booted, regions_of}
-use Rattle.board_core.specs.Laws.{ImagesStay, IsWorld, RegionsStay, images_in}
+use Rattle.board_core.specs.Laws.{ImagesStay, IsWorld, OwnersStay, RegionsStay, images_in}
 use Rattle.board_core.specs.Machine.{Stands, shown}
 use Rattle.board_core.specs.Next.{next}
+use Rattle.board_core.specs.Owners.{AreOwned}
 use Rattle.board_core.specs.Run.{run}
 use Rattle.board_core.specs.Step.{after_effect, after_fault}
 use Rattle.board_core.specs.World.{World, device_at, fresh_device, with_taken}
@@ -27,7 +28,7 @@ use Rattle.board_core.specs.declared.device.Device.{Device}
 pub images_shown : ImagesStay → (w now : World) (e : Event) → IsWorld w → next w e ≡ now → images_in now.memory now.modules ≡ images_in w.memory w.modules
 images_shown stay w now e sound is = ap (λ (v : World). images_in v.memory v.modules) (sym is) ∙ stay w e sound
 
--- what a world keeps beside its regions
+-- what a world keeps beside its regions and its owners
 pub record Keeps (w : World) : Type 0 where
   pub board : IsBoard w.board
   pub kernel : IsSoundKernel w.kernel
@@ -36,8 +37,8 @@ pub record Keeps (w : World) : Type 0 where
   pub devices : length w.devices ≡ length w.board.devices
   pub taken : All (λ d. d.taken ≤ w.irqs) w.devices
 
-is_world : RegionsStay → (w now : World) (e : Event) → IsWorld w → next w e ≡ now → Keeps now → IsWorld now
-is_world stay w now e sound is keeps =
+is_world : RegionsStay → OwnersStay → (w now : World) (e : Event) → IsWorld w → next w e ≡ now → Keeps now → IsWorld now
+is_world stay owners w now e sound is keeps =
     let regions = stay w e sound in
     record {
       board = keeps.board;
@@ -48,6 +49,7 @@ is_world stay w now e sound is keeps =
       modules = keeps.modules;
       devices = keeps.devices;
       taken = keeps.taken;
+      owned = subst (λ (v : World). AreOwned v.modules v.kernel.objects) is (owners w e sound);
     }
 
 -- events lead from a world to another, of which the same holds, and with the same images
@@ -59,9 +61,9 @@ pub record Leads (w : World) (es : List Event) (now : World) : Type 0 where
 pub nothing_leads : (w : World) → IsWorld w → Leads w [] w
 nothing_leads w world = record { run = refl; world = world; images = refl }
 
-pub event_leads : ImagesStay → RegionsStay → (w now : World) (e : Event) → IsWorld w → next w e ≡ now → Keeps now → Leads w (e ∷ []) now
-event_leads images regions w now e world is keeps =
-    record { run = is; world = is_world regions w now e world is keeps; images = images_shown images w now e world is }
+pub event_leads : ImagesStay → RegionsStay → OwnersStay → (w now : World) (e : Event) → IsWorld w → next w e ≡ now → Keeps now → Leads w (e ∷ []) now
+event_leads images regions owners w now e world is keeps =
+    record { run = is; world = is_world regions owners w now e world is keeps; images = images_shown images w now e world is }
 
 pub leads_on : (w middle now : World) (es fs : List Event) → Leads w es middle → Leads middle fs now → Leads w (es ++ fs) now
 leads_on w middle now es fs first then =
@@ -72,22 +74,23 @@ leads_on w middle now es fs first then =
     }
 
 pub events_stand : (b : Board) (k k' : Kernel) (g g' : Memory) (ms ms' : List Module) (ds ds' : List Device) (h h' : List Entry) (es : List Event)
-    → Stands b k g ms ds h → events_of h' ≡ events_of h ++ es → Leads (shown b k g ms ds h) es (shown b k' g' ms' ds' h') → Stands b k' g' ms' ds' h'
-events_stand b k k' g g' ms ms' ds ds' h h' es stands events leads =
+    → Stands b k g ms ds h → All (IsEntry (length b.devices)) h' → events_of h' ≡ events_of h ++ es → Leads (shown b k g ms ds h) es (shown b k' g' ms' ds' h') → Stands b k' g' ms' ds' h'
+events_stand b k k' g g' ms ms' ds ds' h h' es stands theirs events leads =
     record {
       run = ap (λ (i : List (List ℕ)). run (record { board = b; images = i }) h') leads.images
           ∙ (ap (fold next (booted b (images_in g ms))) events
           ∙ (fold-append next (booted b (images_in g ms)) (events_of h) es
           ∙ (ap (λ (v : World). fold next v es) stands.run ∙ leads.run)));
       world = leads.world;
+      its_devices = theirs;
     }
 
-pub event_stands : ImagesStay → RegionsStay → (b : Board) (k k' : Kernel) (g g' : Memory) (ms ms' : List Module) (ds ds' : List Device) (h h' : List Entry) (e : Event)
-    → Stands b k g ms ds h → events_of h' ≡ events_of h ++ e ∷ [] → next (shown b k g ms ds h) e ≡ shown b k' g' ms' ds' h'
+pub event_stands : ImagesStay → RegionsStay → OwnersStay → (b : Board) (k k' : Kernel) (g g' : Memory) (ms ms' : List Module) (ds ds' : List Device) (h h' : List Entry) (e : Event)
+    → Stands b k g ms ds h → All (IsEntry (length b.devices)) h' → events_of h' ≡ events_of h ++ e ∷ [] → next (shown b k g ms ds h) e ≡ shown b k' g' ms' ds' h'
     → Keeps (shown b k' g' ms' ds' h') → Stands b k' g' ms' ds' h'
-event_stands images regions b k k' g g' ms ms' ds ds' h h' e stands events is keeps =
-    events_stand b k k' g g' ms ms' ds ds' h h' (e ∷ []) stands events
-    (event_leads images regions (shown b k g ms ds h) (shown b k' g' ms' ds' h') e stands.world is keeps)
+event_stands images regions owners b k k' g g' ms ms' ds ds' h h' e stands theirs events is keeps =
+    events_stand b k k' g g' ms ms' ds ds' h h' (e ∷ []) stands theirs events
+    (event_leads images regions owners (shown b k g ms ds h) (shown b k' g' ms' ds' h') e stands.world is keeps)
 
 -- a step keeps the number of modules
 pub effect_modules : (k : Kernel) (g : Memory) (ms : List Module) (t : ℕ) (e : Effect) → length (after_effect k g ms t e).modules ≡ length ms

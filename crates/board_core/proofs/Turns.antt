@@ -20,7 +20,7 @@ use Rattle.rv_core.specs.Execute.{Effect, Completes, Stores, Calls, Faults, exec
 use Rattle.rv_core.specs.Hart.{HartState}
 use Rattle.board_core.specs.Burst.{Burst, Turn, burst, burst_by, burst_of, one_more, turn_by, turned}
 use Rattle.board_core.specs.Bus.{seen}
-use Rattle.board_core.specs.Laws.{ImagesStay, IsWorld, RegionsStay}
+use Rattle.board_core.specs.Laws.{ImagesStay, IsWorld, OwnersStay, RegionsStay}
 use Rattle.board_core.specs.Machine.{shown}
 use Rattle.board_core.specs.Next.{after_step, next}
 use Rattle.board_core.specs.Step.{Parts, after_effect, next_effect, parts, with_hart}
@@ -39,6 +39,7 @@ pub record Laws : Type 0 where
   pub lengths : LengthStays
   pub regions : RegionsStay
   pub images : ImagesStay
+  pub owners : OwnersStay
 
 -- memory stays sound where its bytes change and stay as many
 sound_bytes : (g : Memory) (bytes : List ℕ) → IsSoundMemory g → length bytes ≡ length g.bytes → IsSoundMemory (record g { bytes = bytes })
@@ -72,7 +73,7 @@ module _ (laws : Laws) (w : World) (t : ℕ) (world : IsWorld w) (runs : w.kerne
   ran_world : (h : HartState) (bytes : List ℕ) → length bytes ≡ length w.memory.bytes → next w Step ≡ ran_on w t 1 h (record w.memory { bytes = bytes })
       → Leads w (Step ∷ []) (ran_on w t 1 h (record w.memory { bytes = bytes }))
   ran_world h bytes size is =
-      event_leads laws.images laws.regions w (ran_on w t 1 h (record w.memory { bytes = bytes })) Step world is
+      event_leads laws.images laws.regions laws.owners w (ran_on w t 1 h (record w.memory { bytes = bytes })) Step world is
       (record {
         board = world.board;
         kernel = laws.hart w.kernel t h world.kernel below;
@@ -139,6 +140,7 @@ idle_once w world idle =
         modules = world.modules;
         devices = world.devices;
         taken = world.taken;
+        owned = world.owned;
       };
       images = refl;
     }
@@ -180,7 +182,7 @@ turn_leads_by laws w t n b (Some e) world runs ends leads kernel memory =
       taken = world.taken;
     } in
     subst (λ (es : List Event). Leads w es now) (replicate_more b.done Step)
-    (leads_on w v now (replicate b.done Step) (Step ∷ []) leads (event_leads laws.images laws.regions v now Step leads.world is keeps))
+    (leads_on w v now (replicate b.done Step) (Step ∷ []) leads (event_leads laws.images laws.regions laws.owners v now Step leads.world is keeps))
 
 turn_leads : Laws → (w : World) (n : ℕ) (run : Option ℕ) → IsWorld w → w.kernel.ready.run ≡ run
     → IsSoundKernel (turned n w.kernel w.memory w.modules run).parts.kernel → IsSoundMemory (turned n w.kernel w.memory w.modules run).parts.memory

@@ -6,6 +6,7 @@ use Rattle.kernel_state.specs.Sound.{IsSound as IsSoundKernel}
 use Rattle.module_loader.specs.Want.{want_of}
 use Rattle.module_manager.specs.Modules.{module_at}
 use Rattle.module_manager.specs.declared.modules.Module.{Module}
+use Rattle.module_manager.specs.declared.modules.ModuleState.TheVariants.{Faulted}
 use Rattle.region_guard.specs.Memory.{Memory, IsSound as IsSoundMemory, byte, bytes_from}
 use Rattle.rv_core.specs.Execute.{Faults}
 use Rattle.rv_core.specs.declared.bus.Cause.{Cause}
@@ -13,6 +14,7 @@ use Rattle.board_file.specs.Rules.{IsBoard}
 use Rattle.board_core.specs.Boot.{regions_of}
 use Rattle.board_core.specs.Frame.{frame, IsOutsideAll}
 use Rattle.board_core.specs.Next.{next}
+use Rattle.board_core.specs.Owners.{AreOwned, IsStarted}
 use Rattle.board_core.specs.Step.{next_effect}
 use Rattle.board_core.specs.World.{World}
 
@@ -25,6 +27,7 @@ pub record IsWorld (w : World) : Type 0 where
   pub modules : length w.modules ≡ length w.board.modules
   pub devices : length w.devices ≡ length w.board.devices
   pub taken : All (λ d. d.taken ≤ w.irqs) w.devices
+  pub owned : AreOwned w.modules w.kernel.objects
 
 -- each byte outside of an event's frame stays
 abbrev pub FrameLaw : Type 0
@@ -63,6 +66,27 @@ abbrev pub FaultKeepsBytes : Type 0
 FaultKeepsBytes =
     (w : World) (t : ℕ) (cause : Cause) → w.kernel.ready.run ≡ Some t → next_effect w.kernel w.memory t ≡ Faults cause
     → (next w Step).memory ≡ w.memory
+
+-- used slots stay with started modules
+abbrev pub OwnersStay : Type 0
+OwnersStay =
+    (w : World) (e : Event) → IsWorld w → AreOwned (next w e).modules (next w e).kernel.objects
+
+-- the running thread's module is started
+abbrev pub RunnerIsStarted : Type 0
+RunnerIsStarted =
+    (w : World) (t : ℕ) → IsWorld w → w.kernel.ready.run ≡ Some t
+    → IsStarted w.modules (module_of w.kernel t)
+
+-- a fault is kept by the module of its thread, which is one of the board's
+abbrev pub FaultIsKept : Type 0
+FaultIsKept =
+    (w : World) (t : ℕ) (cause : Cause) → IsWorld w → w.kernel.ready.run ≡ Some t
+    → next_effect w.kernel w.memory t ≡ Faults cause
+    → let m = module_of w.kernel t in
+    (m < length w.modules)
+    × ((module_at (next w Step).modules m).state
+    ≡ Faulted (record { thread = t; cause = cause; pc = (thread w.kernel t).hart.pc }))
 
 -- the regions, and where the modules lie and of what they are made, stay; so do the images in their code
 abbrev pub RegionsStay : Type 0

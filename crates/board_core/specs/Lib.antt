@@ -7,6 +7,7 @@ pub mod Laid
 pub mod Laws
 pub mod Machine
 pub mod Next
+pub mod Owners
 pub mod Report
 pub mod Run
 pub mod Step

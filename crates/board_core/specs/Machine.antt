@@ -1,7 +1,7 @@
 -- What a machine stands for: the run of the history that it keeps, from the board and the images that it keeps.
-use Rattle.std.specs.Prelude.{◌≡◌, ℕ, List, []}
+use Rattle.std.specs.Prelude.{◌≡◌, ℕ, List, [], All, length}
 use Rattle.board_file.specs.declared.board.Board.{Board}
-use Rattle.event_log.specs.Log.{step_count, irq_count}
+use Rattle.event_log.specs.Log.{IsEntry, step_count, irq_count}
 use Rattle.event_log.specs.declared.entry.Entry.{Entry}
 use Rattle.kernel_state.specs.declared.kernel.Kernel.{Kernel}
 use Rattle.module_manager.specs.declared.modules.Module.{Module}
@@ -34,7 +34,8 @@ shown b k g ms ds history = record {
   ended = [];
 }
 
--- the machine shows the world that the run of its history reaches
+-- the machine shows the world that the run of its history reaches, and its history is one of its board's devices
 pub record Stands (b : Board) (k : Kernel) (g : Memory) (ms : List Module) (ds : List Device) (history : List Entry) : Type 0 where
   pub run : run (origin_of b g ms) history ≡ shown b k g ms ds history
   pub world : IsWorld (shown b k g ms ds history)
+  pub its_devices : All (IsEntry (length b.devices)) history

@@ -1,10 +1,10 @@
 //! What holds of every event, whatever the board: each function's contract is a law.
-ghost use Rattle.board_core.specs.Laws.{FrameLaw, RegionsStay, ImagesStay, CodeIsInNoFrame, OthersDataIsInNoFrame, FaultSparesOthers, FaultKeepsBytes};
+ghost use Rattle.board_core.specs.Laws.{FrameLaw, RegionsStay, ImagesStay, OwnersStay, RunnerIsStarted, FaultIsKept, CodeIsInNoFrame, OthersDataIsInNoFrame, FaultSparesOthers, FaultKeepsBytes};
 
 use call_dispatch::laws::a_call_writes_its_result_alone;
 use flat_ram::{a_number_lies_lowest_byte_first, a_write_changes_its_range_alone};
 use kernel_state::laws::who_runs_is_a_thread;
-use module_manager::laws::a_halt_spares_other_modules;
+use module_manager::laws::{a_halt_ends_its_module, a_halt_spares_other_modules};
 use region_guard::{a_write_changes_its_bytes_alone, what_may_be_used_is_in_ram};
 
 /// An event changes no byte outside of its frame.
@@ -30,6 +30,17 @@ pub fn an_event_keeps_regions_and_images()
     a_write_changes_its_bytes_alone();
     what_may_be_used_is_in_ram();
     a_call_writes_its_result_alone();
+}
+
+/// Used object slots stay with started modules. So the running thread's module is started, and a
+/// fault of it is kept in that module's row.
+pub fn slots_are_of_started_modules()
+    ensures owners { OwnersStay }
+    ensures runner { RunnerIsStarted }
+    ensures fault { FaultIsKept }
+{
+    who_runs_is_a_thread();
+    a_halt_ends_its_module();
 }
 
 /// No event writes code, and a step writes no data of a module but that of the thread that runs; a

@@ -3,17 +3,18 @@
 //! Its type keeps that the parts show what the written machine reaches from the board and the images
 //! by that history. Every event's memory was taken at boot, and each event always returns.
 ghost use Rattle.std.specs.Prelude.{◌≡◌, ◌+◌, ◌<◌, ◌≤◌, length};
-ghost use Rattle.event_log.specs.Log.{irq_count, step_count, with_irq, with_step, with_steps};
+ghost use Rattle.event_log.specs.Log.{IsHistory, irq_count, step_count, with_irq, with_step, with_steps};
 ghost use Rattle.kernel_state.specs.Sound.{IsSound};
 ghost use Rattle.region_guard.specs.Memory.{IsSound as IsSoundMemory};
 ghost use Rattle.module_manager.specs.Modules.{module_at};
 ghost use Rattle.board_core.specs.Action.{acted, device_of, status_of};
+ghost use Rattle.board_core.specs.Laws.{IsWorld};
 ghost use Rattle.board_core.specs.Run.{run};
 ghost use Rattle.board_core.specs.World.{device_at, with_taken};
 
 use crate::action::act;
 use crate::device::Device;
-use crate::laws::an_event_keeps_regions_and_images;
+use crate::laws::{an_event_keeps_regions_and_images, slots_are_of_started_modules};
 use crate::step::turn;
 use board_file::Board;
 use board_values::DevNo;
@@ -85,6 +86,7 @@ impl Machine {
     {
         a_history_grows_by_steps();
         an_event_keeps_regions_and_images();
+        slots_are_of_started_modules();
         who_runs_is_a_thread();
         a_kernel_stays_sound();
         a_write_changes_its_range_alone();
@@ -103,11 +105,22 @@ impl Machine {
     {
         a_history_grows_by_one_event();
         an_event_keeps_regions_and_images();
+        slots_are_of_started_modules();
         let status = act_for(&self.board, &mut self.kernel, &mut self.guard, d, w);
         is_guarded(&self.guard);
         let _ = self.history.room();
         note_taken(&mut self.devices, d, status);
         self.history.add_irq(d, w);
+    }
+
+    /// The run of the machine's history is a world of which the laws speak; the history is one of the
+    /// board's devices, within its limits and the room.
+    pub fn stands(&self)
+        ensures world { IsWorld (run self.now.origin self.now.history) }
+        ensures history { IsHistory (length self.now.origin.board.devices) self.now.history }
+        ensures room { irq_count self.now.history ≤ self.now.irqs }
+    {
+        let _ = self.history.steps();
     }
 
     /// The events so far.

@@ -1,13 +1,15 @@
 use Rattle.std.proofs.Common.{ℕ, ◌+◌, ◌<◌, ◌≤◌, List, length, All, sym, ap, subst, ◌∙◌, arith}
 use Rattle.std.proofs.lemmas.List.{length-set}
-use Rattle.std.proofs.lemmas.List.Elements.{All-get_or}
+use Rattle.std.proofs.lemmas.List.Elements.{All-get_or, All-push}
 use Rattle.event_log.specs.Events.{Irq, events_of}
-use Rattle.event_log.specs.Log.{irq_count, step_count, with_irq}
+use Rattle.event_log.specs.Log.{IsEntry, irq_count, step_count, with_irq}
 use Rattle.event_log.specs.declared.entry.Entry.{Entry}
+use Rattle.event_log.specs.declared.entry.Entry.TheVariants as entry
 use Rattle.board_core.specs.Laws.{images_in}
 use Rattle.board_core.specs.Machine.{Recorded, shown}
 use Rattle.board_core.specs.World.{fresh_device}
 use Rattle.board_core.specs.declared.device.Device.{Device}
+use Rattle.board_core.proofs.Histories.{AreEntries}
 use Rattle.board_core.proofs.Standing.{event_stands, images_shown, irq_next, taken_more}
 use Rattle.board_core.proofs.machine.Machine.take.Goals as goal
 
@@ -46,8 +48,11 @@ invariant_of-self c =
     let inside : d < length ds = subst (λ n. d < n) (sym world.devices) asked in
     let is = irq_next m.board m.kernel act.new.k m.guard act.new.g m.modules ds ds' h h' d c.args.w act.result
     act.ensures.kernel act.ensures.memory act.ensures.status c.note_taken.ensures steps irqs in
-    event_stands stay.images stay.regions m.board m.kernel act.new.k m.guard act.new.g m.modules m.modules ds ds' h h' (Irq d c.args.w)
-    c.self.invariant (ap events_of grown ∙ law.irq d c.args.w h) is
+    event_stands stay.images stay.regions c.slots_are_of_started_modules.ensures.owners m.board m.kernel act.new.k m.guard act.new.g m.modules m.modules ds ds' h h' (Irq d c.args.w)
+    c.self.invariant
+    (subst (AreEntries (length m.board.devices)) (sym grown)
+    (All-push (IsEntry (length m.board.devices)) h (entry.Irq d c.args.w) c.self.invariant.its_devices (asked, omega (arith, c.ranges.w))))
+    (ap events_of grown ∙ law.irq d c.args.w h) is
     (record {
       board = c.self.invariant.world.board;
       kernel = act.ensures.sound;

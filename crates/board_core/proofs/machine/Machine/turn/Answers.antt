@@ -1,9 +1,10 @@
-use Rattle.std.proofs.Common.{ℕ, ◌+◌, ◌<◌, ◌≤◌, List, replicate, sym, ap, subst, ◌∙◌, arith}
+use Rattle.std.proofs.Common.{ℕ, ◌+◌, ◌<◌, ◌≤◌, List, length, replicate, sym, ap, subst, ◌∙◌, arith}
 use Rattle.event_log.specs.Events.{Step, events_of}
 use Rattle.event_log.specs.Log.{irq_count, step_count, with_steps}
 use Rattle.event_log.specs.declared.entry.Entry.{Entry}
 use Rattle.board_core.specs.Laws.{images_in}
 use Rattle.board_core.specs.Machine.{Recorded, shown}
+use Rattle.board_core.proofs.Histories.{AreEntries, steps_entries}
 use Rattle.board_core.proofs.Standing.{Leads, events_stand}
 use Rattle.board_core.proofs.Turns.{Laws, turned_leads, turned_made}
 use Rattle.board_core.proofs.machine.Machine.turn.Goals as goal
@@ -34,6 +35,7 @@ leads c =
       lengths = c.a_write_changes_its_range_alone.ensures.length_stays;
       regions = stay.regions;
       images = stay.images;
+      owners = c.slots_are_of_started_modules.ensures.owners;
     } in
     turned_leads laws m.board m.kernel c.turn-made.new.k m.guard c.turn-made.new.g m.modules c.turn-made.new.ms m.devices.items h c.add_steps.new.self.entries c.args.most n
     c.self.invariant.world c.turn-made.ensures.made c.turn-made.ensures.parts
@@ -51,7 +53,9 @@ invariant_of-self c =
     let h = m.history.entries in
     let n = c.turn-made.result in
     events_stand m.board m.kernel c.turn-made.new.k m.guard c.turn-made.new.g m.modules c.turn-made.new.ms m.devices.items m.devices.items h c.add_steps.new.self.entries
-    (replicate n Step) c.self.invariant (ap events_of c.add_steps.ensures.entries ∙ c.a_history_grows_by_steps.ensures.events n h)
+    (replicate n Step) c.self.invariant
+    (subst (AreEntries (length m.board.devices)) (sym c.add_steps.ensures.entries) (steps_entries (length m.board.devices) n h c.self.invariant.its_devices))
+    (ap events_of c.add_steps.ensures.entries ∙ c.a_history_grows_by_steps.ensures.events n h)
     (leads (goal.at.invariant_of-self c).After-add_steps)
 
 pub returns-clause-some : goal.returns-clause-some

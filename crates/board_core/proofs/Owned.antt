@@ -1,0 +1,98 @@
+-- Used slots stay with started modules by every event; so the running thread's module is started, and keeps a fault of it.
+use Rattle.std.proofs.Common.{◌≡◌, ℕ, ◌<◌, ◌==◌, true, List, length, Option, None, Some, position, refl, sym, ap, ◌∙◌, subst, ⊎_elim}
+use Rattle.std.proofs.lemmas.Bool.{and_parts, cases_lt, eqb-true}
+use Rattle.std.proofs.lemmas.List.{get_or-set_same, get_or_past}
+use Rattle.tx_types.specs.Code.{thread_error}
+use Rattle.tx_types.specs.declared.kind.Kind.TheVariants.{Thread as ThreadKind}
+use Rattle.board_file.specs.declared.board.Action.{Action}
+use Rattle.board_file.specs.declared.board.Action.TheVariants.{Resume}
+use Rattle.event_log.specs.Events.{Step, Irq}
+use Rattle.kernel_state.specs.Kernel.{is_thread, module_of, thread}
+use Rattle.kernel_state.specs.Laws.{ReadyIsThread, RunningIsReady}
+use Rattle.kernel_state.specs.Sound.{IsEntry, IsSound, IsThread}
+use Rattle.kernel_state.specs.declared.kernel.Kernel.{Kernel}
+use Rattle.kernel_state.specs.declared.thread.Thread.{Thread}
+use Rattle.module_manager.specs.Laws.{HaltEndsGrants, HaltEndsSlots}
+use Rattle.module_manager.specs.Modules.{module_at}
+use Rattle.module_manager.specs.declared.modules.Module.{Module}
+use Rattle.module_manager.specs.declared.modules.ModuleState.TheVariants.{Faulted}
+use Rattle.object_grants.specs.Slot.{has_name, is_in, is_kind, slot_state_number}
+use Rattle.object_grants.specs.Table.{slot}
+use Rattle.object_grants.specs.declared.slot.SlotState.TheVariants.{Live}
+use Rattle.region_guard.specs.Memory.{Memory}
+use Rattle.rv_core.specs.Execute.{Effect, Completes, Stores, Calls, Faults}
+use Rattle.thread_calls.specs.ThreadRows.{resumption}
+use Rattle.board_core.specs.Action.{acted, device_of, resumed_by_name}
+use Rattle.board_core.specs.Laws.{FaultIsKept, IsWorld, OwnersStay, RunnerIsStarted}
+use Rattle.board_core.specs.Owners.{AreOwned, IsStarted}
+use Rattle.board_core.specs.Step.{Parts, after_effect, after_fault, next_effect, stepped, stepped_by, with_hart}
+use Rattle.board_core.specs.World.{World}
+use Rattle.board_core.proofs.OwnedCalls.{Owned, OwnedAfter, dispatched_owned, found_owned, resumption_owned}
+use Rattle.board_core.proofs.OwnedHalt.{fault_owned}
+use Rattle.board_core.proofs.OwnedSlots.{owned_at}
+use Rattle.board_core.proofs.Running.{running_below, stepped_is, thread-with_hart}
+
+-- the laws of the layers below
+pub record Lower : Type 0 where
+  pub is_ready : RunningIsReady
+  pub is_thread : ReadyIsThread
+  pub no_slots : HaltEndsSlots
+  pub no_grants : HaltEndsGrants
+
+-- a thread's slot is its module's, which is started
+thread_started : (ms : List Module) (k : Kernel) (t : ℕ) → IsSound k → Owned ms k → t < 256 → is_thread k t ≡ true → IsStarted ms (module_of k t)
+thread_started ms k t sound owned below is =
+    let s = slot k.objects t in
+    let live = (and_parts (is_in Live s) (is_kind ThreadKind s) is).0 in
+    let used = ap (λ n. n == 0) (eqb-true (slot_state_number s.state) 2 live) in
+    let entry : IsThread k t = subst (IsEntry k t) is (sound.entries t below) in
+    subst (IsStarted ms) (sym entry.owner) ((owned_at ms k.objects t owned).owner used)
+
+pub runner_is_started : Lower → RunnerIsStarted
+runner_is_started lower w t world runs =
+    thread_started w.modules w.kernel t world.kernel world.owned (running_below lower.is_ready lower.is_thread w.kernel t world.kernel runs)
+    (lower.is_thread w.kernel t world.kernel (lower.is_ready w.kernel t world.kernel runs))
+
+-- a step
+abbrev OwnedParts : Parts → Type 0
+OwnedParts p = AreOwned p.modules p.kernel.objects
+
+effect_owned : Lower → (w : World) (t : ℕ) (e : Effect) → IsWorld w → w.kernel.ready.run ≡ Some t → OwnedParts (after_effect w.kernel w.memory w.modules t e)
+unfolding after_fault
+effect_owned lower w t (Completes h) world runs = world.owned
+effect_owned lower w t (Stores a n value h) world runs = world.owned
+effect_owned lower w t (Calls h) world runs =
+    let below = running_below lower.is_ready lower.is_thread w.kernel t world.kernel runs in
+    let same : module_of (with_hart w.kernel t h) t ≡ module_of w.kernel t = ap (λ (u : Thread). u.module) (thread-with_hart w.kernel t h world.kernel below) in
+    dispatched_owned w.modules (with_hart w.kernel t h) w.memory t world.owned (subst (IsStarted w.modules) (sym same) (runner_is_started lower w t world runs))
+effect_owned lower w t (Faults cause) world runs = fault_owned lower.no_slots lower.no_grants w.modules w.kernel (module_of w.kernel t) _ world.kernel world.owned
+
+step_owned : Lower → (w : World) (run : Option ℕ) → IsWorld w → w.kernel.ready.run ≡ run → OwnedParts (stepped_by w.kernel w.memory w.modules run)
+step_owned lower w None world runs = world.owned
+step_owned lower w (Some t) world runs = effect_owned lower w t (next_effect w.kernel w.memory t) world runs
+
+-- an interrupt
+acted_owned : (ms : List Module) (k : Kernel) (g : Memory) (action : Action) (target : List ℕ) (word : ℕ) → Owned ms k → OwnedAfter ms (acted k g action target word)
+unfolding resumed_by_name
+acted_owned ms k g Resume target word before =
+    found_owned ms k g thread_error (position (has_name ThreadKind target) k.objects) (resumption k g) before (λ t _. resumption_owned ms k g t before)
+acted_owned ms k g _ target word before = before
+
+pub owners_stay : Lower → OwnersStay
+unfolding stepped
+owners_stay lower w Step world = step_owned lower w w.kernel.ready.run world refl
+owners_stay lower w (Irq d word) world = acted_owned w.modules w.kernel w.memory (device_of w.board d).action (device_of w.board d).target word world.owned
+
+-- a module that is started is one of the table
+started_inside : (ms : List Module) (m : ℕ) → IsStarted ms m → m < length ms
+started_inside ms m started =
+    ⊎_elim (λ below. below) (λ past. let none = sym (ap (λ (r : Module). r.state) (get_or_past ms m _ past)) ∙ started in cc) (cases_lt m (length ms))
+
+pub fault_is_kept : Lower → FaultIsKept
+unfolding after_fault
+fault_is_kept lower w t cause world runs faults =
+    let m = module_of w.kernel t in
+    let inside = started_inside w.modules m (runner_is_started lower w t world runs) in
+    (inside,
+    subst (λ (p : Parts). (module_at p.modules m).state ≡ Faulted (record { thread = t; cause = cause; pc = (thread w.kernel t).hart.pc }))
+    (sym (stepped_is w t (Faults cause) runs faults)) (ap (λ (r : Module). r.state) (get_or-set_same w.modules m _ _ inside)))

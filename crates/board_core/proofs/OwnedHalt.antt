@@ -1,0 +1,75 @@
+-- A halt leaves used slots with the modules that are still started.
+use Rattle.std.proofs.Common.{◌≡◌, ◌≢◌, ℕ, zero, suc, ◌==◌, ◌&&◌, true, false, not, List, refl, sym, ap, ◌∙◌, subst, ⊎_elim}
+use Rattle.std.proofs.lemmas.Bool.{and_parts, cond_both, false≢true}
+use Rattle.std.proofs.lemmas.Bool.Decides.{eqb_tells}
+use Rattle.std.proofs.lemmas.List.{get_or-set_other}
+use Rattle.std.proofs.lemmas.List.Elements.{All-from_get_or, All-get_or}
+use Rattle.tx_types.specs.declared.state.State.TheVariants.{Terminated}
+use Rattle.kernel_state.specs.Kernel.{is_thread, module_of, removed}
+use Rattle.kernel_state.specs.Sound.{IsSound}
+use Rattle.kernel_state.specs.declared.kernel.Kernel.{Kernel}
+use Rattle.module_manager.specs.Halt.{all_cleared, all_ended, clearing, each_below, ending, freed, halted, ungranting}
+use Rattle.module_manager.specs.Laws.{HaltEndsGrants, HaltEndsSlots}
+use Rattle.module_manager.specs.Modules.{module_at, with_state}
+use Rattle.module_manager.specs.declared.modules.Module.{Module}
+use Rattle.module_manager.specs.declared.modules.ModuleState.{ModuleState}
+use Rattle.object_grants.specs.Slot.{free_slot, is_granted, is_in, owns}
+use Rattle.object_grants.specs.Table.{slot}
+use Rattle.object_grants.specs.declared.slot.Slot.{Slot}
+use Rattle.object_grants.specs.declared.slot.SlotState.TheVariants.{Free}
+use Rattle.board_core.specs.Owners.{AreOwned, IsOwned, IsStarted}
+use Rattle.board_core.proofs.OwnedCalls.{Owned, ended_owned}
+use Rattle.board_core.proofs.OwnedSlots.{emptied_owned, freed_owned, revoked_owned}
+
+-- what each change keeps, all of them keep
+kept_below : (ms : List Module) (n : ℕ) (change : Kernel → ℕ → Kernel) → ((k : Kernel) (i : ℕ) → Owned ms k → Owned ms (change k i)) → (k : Kernel)
+    → Owned ms k → Owned ms (each_below n change k)
+unfolding each_below
+kept_below ms zero change keeps k before = before
+kept_below ms (suc n) change keeps k before = keeps _ n (kept_below ms n change keeps k before)
+
+ending_owned : (ms : List Module) (m : ℕ) (k : Kernel) (t : ℕ) → Owned ms k → Owned ms (ending m k t)
+ending_owned ms m k t before = cond_both (is_thread k t && (module_of k t == m)) _ k (Owned ms) (λ _. ended_owned ms k t Terminated before) (λ _. before)
+
+owned_used : (m : ℕ) (s : Slot) → owns m s ≡ true → is_in Free s ≡ false
+owned_used m s own =
+    let used = (and_parts (not (is_in Free s)) (s.owner == m) own).0 in
+    elim (is_in Free s) as (λ b. not b ≡ true → b ≡ false) [ true ↦ λ no. cc | false ↦ λ yes. refl ] used
+
+clearing_owned : (ms : List Module) (m : ℕ) (k : Kernel) (o : ℕ) → Owned ms k → Owned ms (clearing m k o)
+clearing_owned ms m k o before =
+    cond_both (owns m (slot k.objects o)) _ k (Owned ms)
+    (λ own.
+    cond_both (is_thread k o) (removed k o) k (λ (q : Kernel). Owned ms (freed q o))
+    (λ _. freed_owned ms _ o (emptied_owned ms k.objects o before (owned_used m (slot k.objects o) own)))
+    (λ _. freed_owned ms k.objects o before))
+    (λ _. before)
+
+halted_owned : (ms : List Module) (k : Kernel) (m : ℕ) → Owned ms k → Owned ms (halted k m)
+halted_owned ms k m before =
+    kept_below ms 256 (ungranting m) (λ q o. revoked_owned ms q.objects m o) (all_cleared (all_ended k m) m)
+    (kept_below ms 256 (clearing m) (clearing_owned ms m) (all_ended k m) (kept_below ms 256 (ending m) (ending_owned ms m) k before))
+
+-- another module's state doesn't matter
+started_beside : (ms : List Module) (m n : ℕ) (state : ModuleState) → n ≢ m → IsStarted ms n → IsStarted (with_state ms m state) n
+started_beside ms m n state other started = ap (λ (r : Module). r.state) (get_or-set_other ms m n (record (module_at ms m) { state = state }) _ other) ∙ started
+
+eqb_same : (m : ℕ) → (m == m) ≡ true
+eqb_same m = ⊎_elim (λ same. same.0) (λ other. absurd (other.1 refl)) (eqb_tells m m)
+
+-- no slot is the module's any more, so that its state doesn't matter either
+pub fault_owned : HaltEndsSlots → HaltEndsGrants → (ms : List Module) (k : Kernel) (m : ℕ) (state : ModuleState) → IsSound k → Owned ms k
+    → AreOwned (with_state ms m state) (halted k m).objects
+fault_owned no_slots no_grants ms k m state sound before =
+    let slots = (halted k m).objects in
+    All-from_get_or (IsOwned (with_state ms m state)) slots (free_slot 0) (λ o below.
+    let s = slot slots o in
+    let own = All-get_or (IsOwned ms) slots o (free_slot 0) below (halted_owned ms k m before) in
+    record {
+      owner = λ used.
+          started_beside ms m s.owner state
+          (λ same. false≢true (sym (no_slots k m o sound) ∙ (ap (λ b. not b && (s.owner == m)) used ∙ ap (λ n. n == m) same ∙ eqb_same m))) (own.owner used);
+      grants = λ j granted.
+          started_beside ms m j state
+          (λ same. false≢true (sym (no_grants k m o sound) ∙ subst (λ i. is_granted i s ≡ true) same granted)) (own.grants j granted);
+    })
