@@ -238,6 +238,9 @@ the last address: sw||fe502e23|0|fault 7|80000080|00000000
 the address 0: lw||00002283|0|fault 5|80000080|00000000
 the address 0: sw||00502023|0|fault 7|80000080|00000000
 the last byte of RAM: lbu||804002b7 fff2c283|1|fault 5|80000084|80400000
+no instruction||00000000|0|fault 2|80000080|00000000
+a jump to itself||0000006f|9|count|80000080|00000000
+one past: sw, a byte out, misaligned||fe512ea3|0|fault 6|80000080|00000000
 the end of RAM: sw||804002b7 0052a023|1|fault 7|80000084|80400000
 a jump to the data||00018067|1|fault 1|800000a0|00000000
 a jump into an instruction||fe218067|0|fault 0|80000080|00000000
@@ -271,6 +274,7 @@ for name in ' p1.img' 'p1.img ' ' ' $'p1.img\n' $'\tp1.img'; do
     expect "a name with a blank at an end, '$name'" 0 "$p1_text" from "$work" "$txboard" hart "$name" 1
     rm "$work/$name"
 done
+expect 'an empty name of a board' 2 '' "$txboard" check ''
 expect 'a name of 100,000 bytes' 2 '' "$txboard" hart "$long" 1
 
 # permission doesn't bind root, who runs the case as nobody
@@ -512,6 +516,9 @@ log 'a header' 3 'refused log: line 1' <<<'V 2 1 0'
 log 'bytes that are no text' 3 'refused log: line 1' < <(head -c 100 "$p1")
 log '4,194,304 bytes' 3 'refused log: line 1' < <(head -c 4194304 /dev/zero)
 log 'one byte more' 3 'refused log too large' < <(head -c 4194305 /dev/zero)
+printf 'I 1 0000000a\n' >"$work/log"
+expect 'log: the second of one device' 3 'refused log: line 1' \
+    from "$top" "$txboard" replay examples/two.board.toml "$work/log"
 expect 'no such log' 2 '' from "$top" "$txboard" replay examples/one.board.toml "$work/none.log"
 expect 'a folder for a log' 2 '' from "$top" "$txboard" replay examples/one.board.toml "$work"
 expect 'a log without end' 3 'refused log too large' from "$top" "$txboard" replay examples/one.board.toml /dev/zero
@@ -529,6 +536,9 @@ modules 4096 none.img >"$boards/board.toml"
 replay 'then the images' 2 ''
 modules 4096 major.img >"$boards/board.toml"
 replay 'then the log' 3 'refused log: line 2'
+modules 4096 data.img data.img data.img >"$boards/board.toml"
+replay 'the log, where there is no room' 3 'refused log: line 2'
+modules 4096 major.img >"$boards/board.toml"
 printf 'S 1\n' >"$work/log"
 replay 'then the preambles' 3 'refused image 0: BadMajor 00000007'
 modules 4096 data.img data.img data.img >"$boards/board.toml"
@@ -584,6 +594,7 @@ is_usage ''
 is_usage --help
 is_usage --version
 is_usage hart
+is_usage HART "$p1" 1
 is_usage Hart "$p1" 1
 is_usage hart "$p1"
 is_usage hart "$p1" 1 1

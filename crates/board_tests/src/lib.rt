@@ -1,25 +1,17 @@
-//! Whole boards and whole calls, tested: what no clause of `board_core` and `board_run` says.
+//! Calls, tested: what no clause of `board_run` and of the crates below it says.
 //!
-//! The tests stand above the two crates, which are proved once that way, and ask for public items alone.
+//! The tests stand above these crates, which are proved once that way, and ask for public items alone.
+//! Each test is a list of tables that one helper plays. Whole boards, and calls in which nothing fails,
+//! are played by `tests/cli.sh`.
 #![tactic(auto)]
 
 #[cfg(test)]
-mod bus;
-#[cfg(test)]
-mod check;
-#[cfg(test)]
-mod commands;
+mod calls;
 #[cfg(test)]
 mod files;
 #[cfg(test)]
-mod hart;
+mod lists;
 #[cfg(test)]
 mod refusals;
-#[cfg(test)]
-mod replay;
-#[cfg(test)]
-mod samples;
-#[cfg(test)]
-mod sessions;
 #[cfg(test)]
 mod sinks;
