@@ -1,13 +1,12 @@
 -- The action of a device on a word: what an interrupt of it does.
 use Rattle.std.specs.Prelude.{ℕ, List, [], position}
 use Rattle.std.specs.List.{slice_index_or}
-use Rattle.tx_types.specs.Code.{thread_error}
+use Rattle.tx_types.specs.Code.{thread_error, feature_not_enabled}
 use Rattle.tx_types.specs.declared.kind.Kind.TheVariants.{Thread}
 use Rattle.board_file.specs.declared.board.Action.{Action}
 use Rattle.board_file.specs.declared.board.Action.TheVariants.{Resume}
 use Rattle.board_file.specs.declared.board.Board.{Board}
 use Rattle.board_file.specs.declared.board.BoardDevice.{BoardDevice}
-use Rattle.call_dispatch.specs.Rows.{feature_not_enabled}
 use Rattle.object_grants.specs.Slot.{has_name}
 use Rattle.region_guard.specs.Memory.{Memory}
 use Rattle.kernel_state.specs.Outcome.{Outcome, answered, found}

@@ -3,6 +3,7 @@ use Rattle.std.proofs.Common.{ℕ, ◌<◌, ◌≤◌, length, Option, ap, refl,
 use Rattle.std.specs.List.{slice_index_or}
 use Rattle.std.proofs.lemmas.Bool.{cases_lt}
 use Rattle.std.proofs.lemmas.List.{get_or-set_same, get_or-set_other, set_past}
+use Rattle.tx_types.specs.Code.{feature_not_enabled}
 use Rattle.rv_core.specs.Hart.{HartState, with_register}
 use Rattle.kernel_state.specs.Kernel.{thread}
 use Rattle.kernel_state.specs.Laws.{RunningIsReady, ReadyIsThread}
@@ -15,7 +16,7 @@ use Rattle.kernel_state.specs.declared.thread.Thread.{Thread}
 use Rattle.call_dispatch.specs.Caller.{CallChangesA0Alone, ChangesA0Alone}
 use Rattle.call_dispatch.specs.Ecall.{arguments, dispatched, number_asked, with_a0, with_answer}
 use Rattle.call_dispatch.specs.Laws.{CallWritesItsResultAlone, RefusalChangesNothing, RefusedCallChangesA0Alone, NoRowChangesA0Alone}
-use Rattle.call_dispatch.specs.Rows.{call_row, feature_not_enabled, served}
+use Rattle.call_dispatch.specs.Rows.{call_row, served}
 use Rattle.call_dispatch.specs.declared.service.Service.{Service}
 use Rattle.call_dispatch.proofs.Callers.{running_calls}
 use Rattle.call_dispatch.proofs.EachRow.{call_is_row}

@@ -1,7 +1,7 @@
 -- Each row writes its result alone, refuses with no change, and keeps the registers of the caller.
 use Rattle.std.proofs.Common.{ℕ, ◌==◌, false, refl, not, nat_le, nat_lt, List, [], ◌∷◌, Option, None, Some, option_and_then, position, lit<}
 use Rattle.std.proofs.lemmas.Bool.{cond_both}
-use Rattle.tx_types.specs.Code.{success, ptr_error, option_error, no_instance, no_memory, thread_error, priority_error, delete_error, resume_error, suspend_error, thresh_error, suspend_lifted, not_done}
+use Rattle.tx_types.specs.Code.{success, ptr_error, option_error, no_instance, no_memory, thread_error, priority_error, delete_error, resume_error, suspend_error, thresh_error, suspend_lifted, not_done, feature_not_enabled}
 use Rattle.tx_types.specs.Kind.{kind_of}
 use Rattle.tx_types.specs.declared.kind.Kind.TheVariants.{Thread}
 use Rattle.tx_types.specs.declared.state.State.TheVariants.{Completed, Terminated, Suspended}
@@ -22,7 +22,7 @@ use Rattle.thread_calls.specs.Create.{block_at, block_refusal, created}
 use Rattle.thread_calls.specs.ObjectRows.{allocation, granting, object_allocate_row, object_deallocate_row, object_pointer_get_row}
 use Rattle.thread_calls.specs.ThreadRows.{arg, end_answer, creation, resumption, starting, threshold_change, priority_change, slice_change, thread_create_row, thread_delete_row, thread_terminate_row, thread_suspend_row, thread_resume_row, thread_relinquish_row, thread_identify_row, thread_info_get_row, thread_preemption_change_row, thread_priority_change_row, thread_time_slice_change_row, thread_reset_row, thread_complete_row}
 use Rattle.call_dispatch.specs.Results.{Range, call_result, if_allowed, bytes_at, result_range}
-use Rattle.call_dispatch.specs.Rows.{call_row, feature_not_enabled, served}
+use Rattle.call_dispatch.specs.Rows.{call_row, served}
 use Rattle.call_dispatch.specs.Service.{service_of}
 use Rattle.call_dispatch.specs.declared.service.Service.{Service}
 use Rattle.call_dispatch.specs.declared.service.Service.TheVariants.{ObjectAllocate, ObjectDeallocate, ObjectPointerGet, ThreadCreate, ThreadDelete, ThreadTerminate, ThreadSuspend, ThreadResume, ThreadRelinquish, ThreadIdentify, ThreadInfoGet, ThreadPreemptionChange, ThreadPriorityChange, ThreadTimeSliceChange, ThreadReset, ThreadComplete}

@@ -1,6 +1,6 @@
 -- What holds of every call, whatever it asks for.
 use Rattle.std.specs.Prelude.{◌≡◌, ◌≢◌, ℕ, List, None, Some}
-use Rattle.tx_types.specs.Code.{success, suspend_lifted}
+use Rattle.tx_types.specs.Code.{success, suspend_lifted, feature_not_enabled}
 use Rattle.region_guard.specs.Memory.{Memory, IsSound}
 use Rattle.kernel_state.specs.Kernel.{thread}
 use Rattle.kernel_state.specs.Outcome.{answered}
@@ -8,7 +8,7 @@ use Rattle.kernel_state.specs.declared.answer.Answer.TheVariants.{Code}
 use Rattle.kernel_state.specs.declared.kernel.Kernel.{Kernel}
 use Rattle.call_dispatch.specs.Ecall.{number_asked, with_a0, dispatched}
 use Rattle.call_dispatch.specs.Results.{WritesAlone, call_result}
-use Rattle.call_dispatch.specs.Rows.{call_row, feature_not_enabled}
+use Rattle.call_dispatch.specs.Rows.{call_row}
 use Rattle.call_dispatch.specs.Service.{service_number, service_of}
 use Rattle.call_dispatch.specs.declared.service.Service.{Service}
 

@@ -1,5 +1,6 @@
 -- The row of each service, and of each number that a call may have.
 use Rattle.std.specs.Prelude.{ℕ, List}
+use Rattle.tx_types.specs.Code.{feature_not_enabled}
 use Rattle.region_guard.specs.Memory.{Memory}
 use Rattle.kernel_state.specs.Outcome.{Outcome, found}
 use Rattle.kernel_state.specs.declared.kernel.Kernel.{Kernel}
@@ -8,10 +9,6 @@ use Rattle.thread_calls.specs.ThreadRows.{thread_create_row, thread_delete_row, 
 use Rattle.call_dispatch.specs.Service.{service_of}
 use Rattle.call_dispatch.specs.declared.service.Service.{Service}
 use Rattle.call_dispatch.specs.declared.service.Service.TheVariants.{ObjectAllocate, ObjectDeallocate, ObjectPointerGet, ThreadCreate, ThreadDelete, ThreadTerminate, ThreadSuspend, ThreadResume, ThreadRelinquish, ThreadIdentify, ThreadInfoGet, ThreadPreemptionChange, ThreadPriorityChange, ThreadTimeSliceChange, ThreadReset, ThreadComplete}
-
--- the status of a number that has no row (ThreadX API, `tx_api.h`)
-abbrev pub feature_not_enabled : ℕ
-feature_not_enabled = 0xFF
 
 -- what a service does, by the caller's thread and its arguments
 unfoldable pub served : Service → Kernel → Memory → ℕ → List ℕ → Outcome

@@ -16,9 +16,6 @@ use thread_calls::{
 };
 use tx_types::{Code, ThreadNo};
 
-/// The number of the status of a call that has no row (`tx_api.h`).
-const FEATURE_NOT_ENABLED: u8 = 0xFF;
-
 /// Calls the service of a number. FEATURE_NOT_ENABLED comes where the number has no row, and then
 /// nothing changes.
 #[tactic(auto, unfolding(crate::specs::Rows::call_row))]
@@ -32,7 +29,7 @@ pub(crate) fn call(k: &mut Kernel, g: &mut Guard, by: ThreadNo, number: u32, a: 
 {
     match Service::of(number) {
         Some(service) => serve(service, k, g, by, a),
-        None => Answer::Code(Code::new(FEATURE_NOT_ENABLED)),
+        None => Answer::Code(Code::FEATURE_NOT_ENABLED),
     }
 }
 

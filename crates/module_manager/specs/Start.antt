@@ -1,7 +1,7 @@
 -- The start of a module: its data is zeroed, its threads are made in the lowest usable slots, and then they are started.
 use Rattle.std.specs.Prelude.{ℕ, ◌&&◌, Bool, true, false, nat_le, List, codes, length, filter, position, replicate, Option, None, Some, if◌then◌else◌}
 use Rattle.std.specs.Option.{unwrap_or}
-use Rattle.tx_types.specs.Code.{success, no_memory}
+use Rattle.tx_types.specs.Code.{success, start_error}
 use Rattle.tx_types.specs.declared.kind.Kind.TheVariants.{Thread}
 use Rattle.object_grants.specs.Slot.{is_usable}
 use Rattle.object_grants.specs.Table.{after_allocate}
@@ -17,10 +17,6 @@ use Rattle.thread_calls.specs.Changes.{started}
 use Rattle.module_manager.specs.Modules.{may_start, module_at, with_state}
 use Rattle.module_manager.specs.declared.modules.Module.{Module}
 use Rattle.module_manager.specs.declared.modules.ModuleState.TheVariants.{Started}
-
--- START_ERROR has the number of NO_MEMORY in the ThreadX API
-abbrev pub start_error : ℕ
-start_error = no_memory
 
 -- a module needs a slot for its start thread, and one for its callback thread where it has one
 abbrev pub slots_needed : Preamble → ℕ

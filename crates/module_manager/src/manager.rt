@@ -94,8 +94,8 @@ impl Manager {
     }
 
     /// Starts a module that is loaded or stopped: its data region is zeroed, and its threads are made
-    /// and started. START_ERROR, the number of NO_MEMORY, where it is started or faulted, or where it
-    /// needs more slots than are usable; then nothing changes.
+    /// and started. START_ERROR where it is started or faulted, or where it needs more slots than are
+    /// usable; then nothing changes.
     #[tactic(auto, unfolding(crate::specs::Start::start_row))]
     pub fn start(&mut self, k: &mut Kernel, g: &mut Guard, m: ModNo) -> Code
         requires sound { IsSound k.old }
@@ -114,7 +114,7 @@ impl Manager {
     {
         let row = self.row(m);
         if !can_start(k, row) {
-            return Code::NO_MEMORY;
+            return Code::START_ERROR;
         }
         zero_data(g, m, row);
         begin(k, m, row);

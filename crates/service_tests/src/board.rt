@@ -228,14 +228,15 @@ fn sleep(k: &mut Kernel) -> bool
 {
     a_change_of_state_keeps_sound();
     who_runs_is_a_thread();
-    let Some(t) = k.running() else {
-        return false;
-    };
-    let thread = k.thread_mut(t);
-    thread.state = State::Sleep;
-    thread.held = false;
-    k.ready.unready(t);
-    true
+    if let Some(t) = k.running() {
+        let thread = k.thread_mut(t);
+        thread.state = State::Sleep;
+        thread.held = false;
+        k.ready.unready(t);
+        true
+    } else {
+        false
+    }
 }
 
 fn set(k: &mut Kernel, r: u8, value: u32) -> bool

@@ -1,7 +1,7 @@
 //! Threads are created: each refusal in its order, and what a created thread is.
 
 use crate::names::{
-    INVALID_MEMORY, NO_MEMORY, OBJECT_ALLOCATE, PRIORITY_ERROR, PTR_ERROR, SIZE_ERROR, SUCCESS,
+    INVALID_MEMORY, OBJECT_ALLOCATE, PRIORITY_ERROR, PTR_ERROR, SIZE_ERROR, START_ERROR, SUCCESS,
     THREAD_CREATE, THREAD_ERROR, THREAD_SUSPEND, THRESH_ERROR,
 };
 use crate::pair::{BLOCK, CODE, DATA, MAIN, NAME, OTHER, OTHER_CODE, OTHER_DATA, WORDS, play};
@@ -133,8 +133,8 @@ const NUMBERS: &[Step] = &[
     Step::Create([(PRIORITY, u32::MAX), (AUTO, 0)], PRIORITY_ERROR),
     Step::Create([(THRESHOLD, 16), (AUTO, 2)], THRESH_ERROR),
     Step::Create([(THRESHOLD, u32::MAX), (AUTO, 0)], THRESH_ERROR),
-    Step::Create([(AUTO, 2), (AUTO, 2)], NO_MEMORY),
-    Step::Create([(AUTO, u32::MAX), (AUTO, u32::MAX)], NO_MEMORY),
+    Step::Create([(AUTO, 2), (AUTO, 2)], START_ERROR),
+    Step::Create([(AUTO, u32::MAX), (AUTO, u32::MAX)], START_ERROR),
 ];
 
 const NOT_CREATED: &[Step] = &[Step::Slot(2, SlotState::Empty, 1, 0, 0), Step::Name(2, b"")];

@@ -1,7 +1,7 @@
 -- The block of words that describes a thread to be created, and the thread that is made of it.
 use Rattle.std.specs.Prelude.{ℕ, ◌+◌, ◌*◌, ◌/◌, ◌%◌, ◌^◌, ◌==◌, List, nat_le, nat_lt, Option, slice_set, replicate, if◌then◌else◌}
 use Rattle.std.specs.Option.{option_or}
-use Rattle.tx_types.specs.Code.{size_error, priority_error, thresh_error, no_memory}
+use Rattle.tx_types.specs.Code.{size_error, priority_error, thresh_error, start_error}
 use Rattle.call_arguments.specs.Words.{nth_word}
 use Rattle.region_guard.specs.Memory.{Memory}
 use Rattle.region_guard.specs.declared.region.Access.TheVariants.{Fetch, Store}
@@ -35,7 +35,7 @@ block_refusal k g by b =
     (option_or (caller_refusal k g by Store b.stack b.size)
     (option_or (refused (nat_le k.ready.levels b.priority) priority_error)
     (option_or (refused (nat_lt b.priority b.threshold) thresh_error)
-    (refused (nat_lt 1 b.auto) no_memory)))))
+    (refused (nat_lt 1 b.auto) start_error)))))
 
 -- pc at the module's shell entry; sp (x2) the top of the stack, gp (x3) the module's data base, a0 (x10) the entry, a1 (x11)
 -- the input, all else 0

@@ -130,7 +130,7 @@ fn block_refusal(k: &Kernel, g: &Guard, by: ThreadNo, b: &ThreadBlock) -> Option
     } else if b.threshold > b.priority {
         Some(Code::THRESH_ERROR)
     } else if b.auto > 1 {
-        Some(Code::NO_MEMORY)
+        Some(Code::START_ERROR)
     } else {
         None
     }
