@@ -222,6 +222,7 @@ fn modules_are_started_and_fault(rt: HostRuntime) -> Result<(), Fail> {
 #[test]
 fn rows_are_read(rt: HostRuntime) -> Result<(), Fail> {
     let modules = manager(rt.alloc())?;
+    assert_eq!(rt; modules.len(), 2);
     let row = modules.row(ModNo::new(1));
     assert!(rt; row.preamble == WITH_CALLBACK && row.placed.data_base == OTHER_DATA);
     Ok(())
