@@ -3,3 +3,4 @@ pub mod Cause
 pub mod Execute
 pub mod Hart
 pub mod Memory
+pub mod Operation

@@ -1,7 +1,7 @@
 //! The operations on words.
 //!
 //! Each is one operation of the processor: nothing here branches but a division by zero.
-ghost use Rattle.std.specs.Prelude.{◌≡◌, ◌*◌, ◌/◌, ◌^◌, pos, ◌*ℤ◌};
+ghost use Rattle.std.specs.Prelude.{◌≡◌, ◌*◌, ◌/◌, ◌^◌, nat_lt, pos, ◌*ℤ◌};
 ghost use Rattle.rv_core.specs.Arithmetic.{int, difference, shifted_left, shifted_right, shifted_right_signed, less_signed, high_word, quotient, remainder, quotient_unsigned, remainder_unsigned};
 
 /// The difference, modulo 2^32.
@@ -42,6 +42,14 @@ pub fn less_signed(a: u32, b: u32) -> bool
     ensures { result ≡ less_signed a b }
 {
     a.cast_signed() < b.cast_signed()
+}
+
+/// Whether a word is below another.
+#[inline]
+pub fn less_unsigned(a: u32, b: u32) -> bool
+    ensures { result ≡ nat_lt a b }
+{
+    a < b
 }
 
 /// The high word of the product of signed numbers.

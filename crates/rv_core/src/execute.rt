@@ -1,19 +1,16 @@
 //! The step of one instruction.
-ghost use Rattle.std.specs.Prelude.{◌≡◌, ◌*◌, ◌/◌, ◌%◌, ◌^◌, ◌<◌, pos, ◌+ℤ◌};
+ghost use Rattle.std.specs.Prelude.{◌≡◌, ◌%◌, ◌^◌, ◌<◌};
 ghost use Rattle.machine_words.specs.Bits.{signed, word_of};
 ghost use Rattle.rv_decode.specs.WellFormed.{IsWellFormed};
 ghost use Rattle.rv_core.specs.Execute.{executed, effect, writes, jumps, goes_to, branches, loads_signed, loads_unsigned, stores, sign_extended, hart_after, bus_after, Stored, out_of};
 ghost use Rattle.rv_core.specs.Hart.{advanced};
+ghost use Rattle.rv_core.specs.Operation.{IsFormed, meaning};
 ghost use Rattle.rv_core.specs.declared.bus.Cause.{Cause};
 ghost use Rattle.machine_words.specs.Number.{IsWidth};
 
-use crate::arithmetic::{
-    difference, high_product_mixed, high_product_signed, high_product_unsigned, less_signed,
-    quotient, quotient_unsigned, remainder, remainder_unsigned, shifted_left, shifted_right,
-    shifted_right_signed,
-};
 use crate::bus::{Bus, Cause};
 use crate::hart::Hart;
+use crate::operation::{Operation, asked, displaced};
 use rv_decode::{Instr, decode};
 
 /// How a step ends: the instruction completed, it is ECALL, or it can't be executed.
@@ -44,9 +41,7 @@ pub fn step<B: Bus>(hart: &mut Hart, bus: &mut B) -> Out
     }
 }
 
-/// Executes an instruction, one line a row of the instruction table.
-#[rattlefmt::skip]
-#[tactic(auto, using(crate::proofs::Effects::keeps_the_bus))]
+/// Executes an instruction.
 fn execute<B: Bus>(i: Instr, hart: &mut Hart, bus: &mut B) -> Out
     requires { IsWellFormed i }
     ensures out { result ≡ out_of (effect i (B.memory bus.old) hart.old) }
@@ -54,75 +49,35 @@ fn execute<B: Bus>(i: Instr, hart: &mut Hart, bus: &mut B) -> Out
     ensures bus { bus.new ≡ bus_after B.after_store (effect i (B.memory bus.old) hart.old) bus.old }
     ensures bytes { Stored (effect i (B.memory bus.old) hart.old) (B.memory bus.old) (B.memory bus.new) }
 {
-    match i {
-        Instr::Lui { rd, imm } => write(hart, rd, imm.cast_unsigned()),
-        Instr::Auipc { rd, imm } => write(hart, rd, displaced(hart.pc, imm)),
-        Instr::Jal { rd, imm } => jump(hart, rd, displaced(hart.pc, imm)),
-        Instr::Jalr { rd, rs1, imm } => jump(hart, rd, even(displaced(hart.get(rs1), imm))),
-        Instr::Beq { rs1, rs2, imm } => branch(hart, hart.get(rs1) == hart.get(rs2), imm),
-        Instr::Bne { rs1, rs2, imm } => branch(hart, hart.get(rs1) != hart.get(rs2), imm),
-        Instr::Blt { rs1, rs2, imm } => branch(hart, less_signed(hart.get(rs1), hart.get(rs2)), imm),
-        Instr::Bge { rs1, rs2, imm } => branch(hart, !less_signed(hart.get(rs1), hart.get(rs2)), imm),
-        Instr::Bltu { rs1, rs2, imm } => branch(hart, hart.get(rs1) < hart.get(rs2), imm),
-        Instr::Bgeu { rs1, rs2, imm } => branch(hart, hart.get(rs1) >= hart.get(rs2), imm),
-        Instr::Lb { rd, rs1, imm } => load_signed(hart, bus, rd, displaced(hart.get(rs1), imm), 1),
-        Instr::Lh { rd, rs1, imm } => load_signed(hart, bus, rd, displaced(hart.get(rs1), imm), 2),
-        Instr::Lw { rd, rs1, imm } => load(hart, bus, rd, displaced(hart.get(rs1), imm), 4),
-        Instr::Lbu { rd, rs1, imm } => load(hart, bus, rd, displaced(hart.get(rs1), imm), 1),
-        Instr::Lhu { rd, rs1, imm } => load(hart, bus, rd, displaced(hart.get(rs1), imm), 2),
-        Instr::Sb { rs1, rs2, imm } => store(hart, bus, displaced(hart.get(rs1), imm), 1, hart.get(rs2)),
-        Instr::Sh { rs1, rs2, imm } => store(hart, bus, displaced(hart.get(rs1), imm), 2, hart.get(rs2)),
-        Instr::Sw { rs1, rs2, imm } => store(hart, bus, displaced(hart.get(rs1), imm), 4, hart.get(rs2)),
-        Instr::Addi { rd, rs1, imm } => write(hart, rd, displaced(hart.get(rs1), imm)),
-        Instr::Slti { rd, rs1, imm } => write(hart, rd, u32::from(hart.get(rs1).cast_signed() < imm)),
-        Instr::Sltiu { rd, rs1, imm } => write(hart, rd, u32::from(hart.get(rs1) < imm.cast_unsigned())),
-        Instr::Xori { rd, rs1, imm } => write(hart, rd, hart.get(rs1) ^ imm.cast_unsigned()),
-        Instr::Ori { rd, rs1, imm } => write(hart, rd, hart.get(rs1) | imm.cast_unsigned()),
-        Instr::Andi { rd, rs1, imm } => write(hart, rd, hart.get(rs1) & imm.cast_unsigned()),
-        Instr::Slli { rd, rs1, amount } => write(hart, rd, shifted_left(hart.get(rs1), u32::from(amount))),
-        Instr::Srli { rd, rs1, amount } => write(hart, rd, shifted_right(hart.get(rs1), u32::from(amount))),
-        Instr::Srai { rd, rs1, amount } => write(hart, rd, shifted_right_signed(hart.get(rs1), u32::from(amount))),
-        Instr::Add { rd, rs1, rs2 } => write(hart, rd, hart.get(rs1).wrapping_add(hart.get(rs2))),
-        Instr::Sub { rd, rs1, rs2 } => write(hart, rd, difference(hart.get(rs1), hart.get(rs2))),
-        Instr::Sll { rd, rs1, rs2 } => write(hart, rd, shifted_left(hart.get(rs1), hart.get(rs2))),
-        Instr::Slt { rd, rs1, rs2 } => write(hart, rd, u32::from(less_signed(hart.get(rs1), hart.get(rs2)))),
-        Instr::Sltu { rd, rs1, rs2 } => write(hart, rd, u32::from(hart.get(rs1) < hart.get(rs2))),
-        Instr::Xor { rd, rs1, rs2 } => write(hart, rd, hart.get(rs1) ^ hart.get(rs2)),
-        Instr::Srl { rd, rs1, rs2 } => write(hart, rd, shifted_right(hart.get(rs1), hart.get(rs2))),
-        Instr::Sra { rd, rs1, rs2 } => write(hart, rd, shifted_right_signed(hart.get(rs1), hart.get(rs2))),
-        Instr::Or { rd, rs1, rs2 } => write(hart, rd, hart.get(rs1) | hart.get(rs2)),
-        Instr::And { rd, rs1, rs2 } => write(hart, rd, hart.get(rs1) & hart.get(rs2)),
-        Instr::Fence { .. } => next(hart),
-        Instr::Ecall => {
+    let operation = asked(i, hart);
+    perform(operation, hart, bus)
+}
+
+/// Performs an operation.
+#[inline]
+#[tactic(auto, using(crate::proofs::Effects::keeps_the_bus))]
+fn perform<B: Bus>(operation: Operation, hart: &mut Hart, bus: &mut B) -> Out
+    requires { IsFormed operation }
+    ensures out { result ≡ out_of (meaning operation (B.memory bus.old) hart.old) }
+    ensures hart { hart.new ≡ hart_after (meaning operation (B.memory bus.old) hart.old) hart.old }
+    ensures bus { bus.new
+        ≡ bus_after B.after_store (meaning operation (B.memory bus.old) hart.old) bus.old }
+    ensures bytes { Stored (meaning operation (B.memory bus.old) hart.old) (B.memory bus.old) (B.memory bus.new) }
+{
+    match operation {
+        Operation::Write { rd, value } => write(hart, rd, value),
+        Operation::Jump { rd, target } => jump(hart, rd, target),
+        Operation::Branch { taken, imm } => branch(hart, taken, imm),
+        Operation::Load { rd, a, n } => load(hart, bus, rd, a, n),
+        Operation::LoadSigned { rd, a, n } => load_signed(hart, bus, rd, a, n),
+        Operation::Store { a, n, value } => store(hart, bus, a, n, value),
+        Operation::Next => next(hart),
+        Operation::Call => {
             hart.advance();
             Out::Call
         }
-        Instr::Ebreak => Out::Fault(Cause::Breakpoint),
-        Instr::Mul { rd, rs1, rs2 } => write(hart, rd, hart.get(rs1).wrapping_mul(hart.get(rs2))),
-        Instr::Mulh { rd, rs1, rs2 } => write(hart, rd, high_product_signed(hart.get(rs1), hart.get(rs2))),
-        Instr::Mulhsu { rd, rs1, rs2 } => write(hart, rd, high_product_mixed(hart.get(rs1), hart.get(rs2))),
-        Instr::Mulhu { rd, rs1, rs2 } => write(hart, rd, high_product_unsigned(hart.get(rs1), hart.get(rs2))),
-        Instr::Div { rd, rs1, rs2 } => write(hart, rd, quotient(hart.get(rs1), hart.get(rs2))),
-        Instr::Divu { rd, rs1, rs2 } => write(hart, rd, quotient_unsigned(hart.get(rs1), hart.get(rs2))),
-        Instr::Rem { rd, rs1, rs2 } => write(hart, rd, remainder(hart.get(rs1), hart.get(rs2))),
-        Instr::Remu { rd, rs1, rs2 } => write(hart, rd, remainder_unsigned(hart.get(rs1), hart.get(rs2))),
+        Operation::Break => Out::Fault(Cause::Breakpoint),
     }
-}
-
-/// A word and an immediate added up, modulo 2^32.
-#[inline]
-fn displaced(a: u32, imm: i32) -> u32
-    ensures { result ≡ word_of (pos a +ℤ imm) }
-{
-    a.wrapping_add(imm.cast_unsigned())
-}
-
-/// A word with bit 0 cleared.
-#[inline]
-fn even(a: u32) -> u32
-    ensures { result ≡ a / 2 * 2 }
-{
-    a & !1
 }
 
 /// Goes on to the next instruction.
@@ -160,7 +115,7 @@ fn go_to(hart: &mut Hart, target: u32) -> Out
     Out::Done
 }
 
-/// Jumps to a target, and writes the address of the instruction behind the jump.
+/// Jumps to a target, and writes the address of the next instruction.
 #[inline]
 #[tactic(auto, unfolding(crate::specs::Execute::jumps))]
 fn jump(hart: &mut Hart, rd: u8, target: u32) -> Out

@@ -5,10 +5,8 @@ mod arithmetic;
 mod bus;
 mod execute;
 mod hart;
+mod operation;
 
 pub use bus::{Bus, Cause};
 pub use execute::{Out, step};
 pub use hart::Hart;
-
-#[cfg(test)]
-mod tests;

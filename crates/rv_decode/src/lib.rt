@@ -67,6 +67,3 @@ pub enum Instr {
     Rem { rd: u8, rs1: u8, rs2: u8 },
     Remu { rd: u8, rs1: u8, rs2: u8 },
 }
-
-#[cfg(test)]
-mod tests;

@@ -4,7 +4,7 @@ ghost use Rattle.std.specs.List.{range_with_len};
 ghost use Rattle.machine_words.specs.Number.{IsWidth, number_from, after_store as bytes_after};
 ghost use Rattle.rv_core.specs.Memory.{Memory};
 
-use crate::{Bus, Cause};
+use rv_core::{Bus, Cause};
 
 /// How many bytes there are.
 const SIZE: u64 = 12;
@@ -17,7 +17,7 @@ pub struct Plain {
 }
 
 impl Plain {
-    /// An instruction at an address, and eight bytes behind it.
+    /// An instruction at an address, and eight bytes after it.
     pub fn new(base: u32, word: u32, [d0, d1, d2, d3, d4, d5, d6, d7]: [u8; 8]) -> Plain {
         let [w0, w1, w2, w3] = word.to_le_bytes();
         Plain {

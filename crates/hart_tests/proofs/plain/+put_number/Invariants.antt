@@ -1,4 +1,4 @@
-use Rattle.rv_core.proofs.tests.plain.+put_number.Given as goal
+use Rattle.hart_tests.proofs.plain.+put_number.Given as goal
 
 abbrev pub decreases-put_number : goal.decreases-put_number
 decreases-put_number l = l.n

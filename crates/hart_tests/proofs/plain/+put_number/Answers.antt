@@ -2,7 +2,7 @@ use Rattle.std.proofs.Common.{◌≡◌, ℕ, suc, ◌+◌, ◌-◌, ◌/◌, �
 use Rattle.std.proofs.Math.Nat.{div-div-eq-div-mul, pow-succ'}
 use Rattle.std.proofs.lemmas.Bool.Decides.{nat_tests}
 use Rattle.machine_words.specs.Number.{after_store}
-use Rattle.rv_core.proofs.tests.plain.+put_number.Goals as goal
+use Rattle.hart_tests.proofs.plain.+put_number.Goals as goal
 
 -- a byte above the lowest is a byte of what is left
 higher : (value at k : ℕ) → at < k → value / 256 / 256 ^ (k - (at + 1)) % 256 ≡ value / 256 ^ (k - at) % 256

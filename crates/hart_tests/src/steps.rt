@@ -1,14 +1,12 @@
 //! Single steps over a plain bus. The words are those of the GNU assembler; the results were worked by
 //! hand from the RISC-V Unprivileged ISA Manual.
 //!
-//! The instruction lies at PC and eight bytes of data behind it. x1 and x2 are its operands, and x3 is
+//! The instruction lies at PC and eight bytes of data after it. x1 and x2 are its operands, and x3 is
 //! written; x3 holds the value of x1 before.
 ghost use Rattle.std.specs.Prelude.{◌≡◌, ◌%◌, slice_index};
 
-mod plain;
-
-use crate::{Cause, Hart, Out, step};
-use plain::Plain;
+use crate::plain::Plain;
+use rv_core::{Cause, Hart, Out, step};
 use std::process::Abort;
 
 const PC: u32 = 0x8000_0100;

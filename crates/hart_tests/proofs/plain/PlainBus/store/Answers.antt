@@ -1,8 +1,8 @@
 use Rattle.std.proofs.Common.{ℕ, ◌-◌, List, slice_index, ap, rules}
 use Rattle.std.proofs.lemmas.List.FromFn.{fill_by_all}
 use Rattle.machine_words.specs.Number.{after_store}
-use Rattle.rv_core.specs.declared.tests.plain.Plain.{Plain}
-use Rattle.rv_core.proofs.tests.plain.PlainBus.store.Goals as goal
+use Rattle.hart_tests.specs.declared.plain.Plain.{Plain}
+use Rattle.hart_tests.proofs.plain.PlainBus.store.Goals as goal
 
 pub returns-clause-after : goal.returns-clause-after
 returns-clause-after c =
