@@ -475,6 +475,17 @@ expect 'a reader that has gone: the usage line' 4 '' to_gone
 expect 'a reader of one line' 0 'hart steps 1 end count' first_line hart "$p1" 1
 expect 'no standard input and no standard error' 0 "$p1_text" with_output_alone hart "$p1" 1
 
+# ---- Memory: the most RAM of a board is more than these 16,000 KiB of addresses, in which all else has room
+
+in_little() { (ulimit -v 16000 && "$txboard" "$@"); }
+modules 16777216 p1.img >"$boards/board.toml"
+printf 'S 1\n' >"$work/log"
+expect 'memory: the RAM of a board' 5 '' from "$boards" in_little replay board.toml "$work/log"
+expect 'memory: a check needs no RAM' 0 "module 0 m0 code 80000000 132 data 800000a0 320
+ok" from "$boards" in_little check board.toml
+expect 'memory: a smaller board' 0 "$(cat "$top/examples/two.expected")" \
+    from "$top" in_little replay examples/two.board.toml examples/two.log
+
 # ---- Logs
 
 three_steps='S 3
@@ -641,7 +652,7 @@ expect 'wrapper: --unproved' 0 "$(cat "$top/examples/two.expected")" \
 
 expect 'the stored run has the image of examples/' 0 '' cmp "$top/crates/txboard/data/p1.img" "$p1"
 if command -v python3 >"$work/out"; then
-    mkdir "$work/examples" && cp "$top/examples/"{images.py,*.toml,*.log} "$work/examples"
+    cp -r "$top/examples" "$work/examples" && rm "$work"/examples/*.img
     expect 'examples/images.py' 0 '' python3 "$work/examples/images.py"
     expect 'it writes the images of examples/' 0 '' diff -r "$top/examples" "$work/examples"
 else
