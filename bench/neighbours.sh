@@ -16,7 +16,7 @@ interpreter
 runs="${1:-10}"
 most="${2:-50000000}"
 
-# board NAME MODULES STARTED: writes a board of so many modules, of which that one alone is started
+# board NAME MODULES STARTED: writes a board of that number of modules, of which that one alone is started
 board() {
     local m
     {
