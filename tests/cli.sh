@@ -10,15 +10,26 @@ passed=0 failed=0
 work=$(mktemp -d) || exit 1
 trap 'rm -rf "$work"' EXIT
 
+# told STATUS: standard error has what a call that ended so says there: one line after 2, 4 and 5, else nothing
+told() {
+    local line
+    case $1 in
+    2) line='txboard: "*": ?*' ;;
+    4) line='txboard: the output could not be written' ;;
+    5) line='txboard: out of memory' ;;
+    *) [ ! -s "$work/err" ]; return ;;
+    esac
+    [ "$(wc -l <"$work/err")" -eq 1 ] && [[ $(<"$work/err") == $line ]]
+}
 # expect NAME STATUS TEXT COMMAND..: the command ends with the status, writes the text (its last newline is
-# left out here) to standard output, and nothing to standard error
+# left out here) to standard output, and what such a call says to standard error
 expect() {
     local name=$1 status=$2 text=$3 got
     shift 3
     "$@" >"$work/out" 2>"$work/err" </dev/null
     got=$?
     printf '%s' "${text:+$text$'\n'}" >"$work/want"
-    if [ "$got" -eq "$status" ] && cmp -s "$work/out" "$work/want" && [ ! -s "$work/err" ]; then
+    if [ "$got" -eq "$status" ] && cmp -s "$work/out" "$work/want" && told "$status"; then
         passed=$((passed + 1))
     else
         failed=$((failed + 1))
@@ -26,6 +37,13 @@ expect() {
             "$(head -c 400 "$work/out")" "$(head -c 200 "$work/err")"
     fi
 }
+# says LINE COMMAND..: the command writes this one line to standard error, and nothing to standard output
+says() {
+    local line=$1
+    shift
+    expect "says: $line" 0 "$line" says_alone "$@"
+}
+says_alone() { "$@" 2>&1 >"$work/said"; [ ! -s "$work/said" ]; }
 
 skipped() { printf 'skipped: %s\n' "$1"; }
 # from FOLDER COMMAND..: the command, called in the folder
@@ -277,6 +295,16 @@ done
 expect 'an empty name of a board' 2 '' "$txboard" check ''
 expect 'a name of 100,000 bytes' 2 '' "$txboard" hart "$long" 1
 
+none='No such file or directory (os error 2)'
+says "txboard: \"none.img\": $none" from "$work" "$txboard" hart none.img 1
+says "txboard: \"\": $none" "$txboard" hart '' 1
+says "txboard: \"none.img \": $none" from "$work" "$txboard" hart 'none.img ' 1
+says "txboard: \"two\\nlines\": $none" from "$work" "$txboard" hart $'two\nlines' 1
+says 'txboard: ".": Is a directory (os error 21)' from "$work" "$txboard" hart . 1
+says "txboard: \"${long:0:5000}\": File name too long (os error 36)" "$txboard" hart "${long:0:5000}" 1
+without_errors() { "$txboard" hart "$work/none.img" 1 2>&-; [ $? -eq 2 ]; }
+expect 'a standard error that is closed' 0 '' without_errors
+
 # permission doesn't bind root, who runs the case as nobody
 cp "$txboard" "$work/txboard" && cp "$p1" "$work/secret.img" && chmod 755 "$work" && chmod 0 "$work/secret.img"
 as_other=()
@@ -442,7 +470,7 @@ to_none() { "$txboard" "$@" >&-; }
 with_output_alone() { "$txboard" "$@" <&- 2>&-; }
 # the reader may have gone before the program's last write, or not
 first_line() {
-    "$txboard" "$@" | head -n 1
+    "$txboard" "$@" 2>"$work/said" | head -n 1
     local status=${PIPESTATUS[0]}
     [ "$status" -eq 0 ] || [ "$status" -eq 4 ]
 }

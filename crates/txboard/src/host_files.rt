@@ -1,15 +1,16 @@
 //! The host's files, read whole and never written.
 //!
-//! What the host holds is not told; where a reader tells the bytes that it has left, the front that is read
-//! is theirs.
+//! What the host holds is not told; where a reader tells the bytes that it has left, the prefix that is
+//! read is theirs. A file that wasn't read is told on the host's standard error as it is read.
 ghost use Rattle.std.specs.Prelude.{◌≡◌, ◌≢◌, ◌+◌, ◌^◌, ◌<◌, ◌≤◌, None, take, vec_len, IfOk, IfErr, IfSome};
 ghost use Rattle.std.specs.Io.KnownBytes.{Consumes};
 ghost use Rattle.std.specs.IoError.{error_kind};
 ghost use Rattle.txboard.specs.HostFiles.{count_read};
 
+use crate::failure::{Failure, told_read};
 use board_run::{Files, ReadErr};
 use std::alloc::Global;
-use std::io::{ErrorKind, Read};
+use std::io::{Eprint, ErrorKind, Read};
 use std::{fs, io};
 
 /// How many bytes one read asks for at most.
@@ -18,12 +19,12 @@ const CHUNK: usize = 4096;
 /// The files of the host that the runtime reaches. Each fault of reading is counted; a file that isn't
 /// there is one.
 #[derive(Drop)]
-pub struct HostFiles<'a, R: std::rt::Files> {
+pub struct HostFiles<'a, R: std::rt::Files + Eprint> {
     rt: &'a R,
-    faults: u64,
+    pub faults: u64,
 }
 
-impl<'a, R: std::rt::Files> HostFiles<'a, R> {
+impl<'a, R: std::rt::Files + Eprint> HostFiles<'a, R> {
     /// No fault so far.
     pub fn new(rt: &'a R) -> Self
         ensures { result.faults ≡ 0 }
@@ -32,7 +33,7 @@ impl<'a, R: std::rt::Files> HostFiles<'a, R> {
     }
 }
 
-impl<R: std::rt::Files> Files for HostFiles<'_, R> {
+impl<R: std::rt::Files + Eprint> Files for HostFiles<'_, R> {
     ghost held = { λ _. None };
 
     ghost faults = { λ files. files.faults };
@@ -43,7 +44,8 @@ impl<R: std::rt::Files> Files for HostFiles<'_, R> {
         ensures count { self.new.faults ≡ count_read self.old.faults result }
         ensures bound { IfOk result (λ v. vec_len v ≤ max + 1) }
     {
-        let outcome = read_named(self.rt, alloc, name, max as usize + 1);
+        let read = read_named(self.rt, alloc, name, max as usize + 1);
+        let outcome = told_read(self.rt, name, read);
         if let Err(ReadErr::Failed | ReadErr::Missing) = outcome {
             self.faults = self.faults.saturating_add(1);
         }
@@ -57,47 +59,65 @@ fn read_named<R: std::rt::Files>(
     alloc: Global,
     name: &str,
     most: usize,
-) -> Result<Vec<u8>, ReadErr>
+) -> Result<Vec<u8>, Failure>
     requires { most < 2 ^ 32 }
     ensures { IfOk result (λ v. vec_len v ≤ most) }
 {
-    let mut file = fs::open(rt, name).map_err(why_not_opened)?;
+    let mut file = fs::open(rt, name).map_err(not_opened)?;
     read_front(alloc, &mut file, most)
 }
 
 /// What an error of opening a file means.
-fn why_not_opened(error: io::Error) -> ReadErr
-    ensures missing { error_kind error ≡ ErrorKind.NotFound → result ≡ ReadErr.Missing }
-    ensures failed { error_kind error ≢ ErrorKind.NotFound → result ≡ ReadErr.Failed }
+fn not_opened(error: io::Error) -> Failure
+    ensures missing { error_kind error ≡ ErrorKind.NotFound → result.why ≡ ReadErr.Missing }
+    ensures failed { error_kind error ≢ ErrorKind.NotFound → result.why ≡ ReadErr.Failed }
 {
-    if error.kind() == ErrorKind::NotFound {
+    let why = if error.kind() == ErrorKind::NotFound {
         ReadErr::Missing
     } else {
         ReadErr::Failed
+    };
+    Failure {
+        why,
+        error: Some(error),
     }
 }
 
+/// What an error of reading means, whatever its kind.
+fn not_read(error: io::Error) -> Failure
+    ensures { result.why ≡ ReadErr.Failed }
+{
+    Failure {
+        why: ReadErr::Failed,
+        error: Some(error),
+    }
+}
+
+/// No memory for the bytes that were read; the host gave no error.
+const NO_MEMORY: Failure = Failure {
+    why: ReadErr::NoMemory,
+    error: None,
+};
+
 /// The first bytes of a reader, at most so many. Each turn takes a byte at least, or is the last.
-fn read_front<F: Read>(alloc: Global, reader: &mut F, most: usize) -> Result<Vec<u8>, ReadErr>
+fn read_front<F: Read>(alloc: Global, reader: &mut F, most: usize) -> Result<Vec<u8>, Failure>
     requires { most < 2 ^ 32 }
     ensures bound { IfOk result (λ v. vec_len v ≤ most) }
     ensures front { IfOk result (λ v. IfSome (F.remaining reader.old) (λ xs. v.items ≡ take most xs)) }
     ensures taken { IfOk result (λ v. Consumes (F.remaining reader.old) (F.remaining reader.new) v.items) }
-    ensures opened { IfErr result (λ e. e ≢ ReadErr.Missing) }
+    ensures opened { IfErr result (λ f. f.why ≢ ReadErr.Missing) }
 {
     let mut bytes = Vec::new(alloc);
     let mut chunk = [0; CHUNK];
     while bytes.len() < most {
         let room = CHUNK.min(most - bytes.len());
-        let count = reader
-            .read(&mut chunk[..room])
-            .map_err(|_| ReadErr::Failed)?;
+        let count = reader.read(&mut chunk[..room]).map_err(not_read)?;
         if count == 0 {
             break;
         }
         bytes
             .extend_from_slice(&chunk[..count])
-            .map_err(|_| ReadErr::NoMemory)?;
+            .map_err(|_| NO_MEMORY)?;
     }
     Ok(bytes)
 }

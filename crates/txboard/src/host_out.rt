@@ -12,8 +12,8 @@ use std::io::Write;
 /// A writer of the host. Each fault of writing is counted.
 #[derive(Drop)]
 pub struct HostOut<W: Write + Drop> {
-    out: W,
-    faults: u64,
+    pub out: W,
+    pub faults: u64,
 }
 
 impl<W: Write + Drop> HostOut<W> {

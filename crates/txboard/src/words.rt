@@ -43,3 +43,6 @@ pub fn words_of(host: &impl Env, alloc: Global) -> Result<Vec<String>, Status>
         Err(_) => Ok(words),
     }
 }
+
+#[cfg(test)]
+mod tests;

@@ -57,7 +57,7 @@ fn reads_a_front_or_fails(rt: HostRuntime) {
                 text.as_bytes(),
                 "{width}, {most}"
             ),
-            (Err(why), Err(cause)) => assert_eq!(rt; why, cause, "{width}, {most}"),
+            (Err(failure), Err(cause)) => assert_eq!(rt; failure.why, cause, "{width}, {most}"),
             _ => panic!(rt; "at {width}, {most}"),
         }
     }
