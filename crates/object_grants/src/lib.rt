@@ -14,6 +14,3 @@ pub use slot::{LAST_GENERATION, Slot, SlotState};
 
 /// How many slots there are.
 pub const SLOTS: u16 = 256;
-
-#[cfg(test)]
-mod tests;

@@ -7,6 +7,3 @@ mod ready;
 mod state;
 
 pub use ready::Ready;
-
-#[cfg(test)]
-mod tests;

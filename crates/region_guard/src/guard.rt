@@ -1,4 +1,4 @@
-//! RAM behind its regions.
+//! RAM and its regions.
 //!
 //! Every use of memory is by a module, at an address, and has been allowed by the rule `may`; what is
 //! read or changed is that range alone.

@@ -1,6 +1,6 @@
 //! Sequences of moves worked by hand: who runs after each, and who is held.
 
-use crate::Ready;
+use ready_maps::Ready;
 use std::test::Fail;
 use tx_types::{Prio, ThreadNo, Thresh};
 
@@ -116,7 +116,7 @@ fn a_threshold_keeps_threads_back(rt: HostRuntime) -> Result<(), Fail> {
             (Move::Ready(2), Some(1), &[]),
             (Move::Ready(3), Some(3), &[1]),
         ],
-        // who takes the priority of a holder goes behind it
+        // who takes the priority of a holder goes after it
         &[
             (Move::Priority(1, 20, 8), None, &[]),
             (Move::Priority(2, 7, 2), None, &[]),
@@ -146,7 +146,7 @@ const NUMBERS: &[Step] = &[
 #[test]
 fn sequences_of_moves(rt: HostRuntime) -> Result<(), Fail> {
     let table: [&[Step]; 24] = [
-        // who yields goes behind those of its priority
+        // who yields goes after those of its priority
         &[
             (Move::Ready(4), Some(4), &[]),
             (Move::Ready(5), Some(4), &[]),
@@ -334,15 +334,18 @@ fn what_can_be_read(rt: HostRuntime) -> Result<(), Fail> {
             (Move::Ready(1), Some(3), &[]),
         ],
     )?;
-    assert_eq!(rt; r.priorities(), 1024);
-    assert_eq!(rt; r.priority(thread(1)), Prio::new(10));
-    assert_eq!(rt; r.threshold(thread(1)), Thresh::new(5));
-    assert!(rt; r.is_ready(thread(1)) && !r.is_ready(thread(5)));
-    assert_eq!(rt; r.first_at(Prio::new(10)), Some(thread(4)));
-    assert_eq!(rt; r.first_at(Prio::new(5)), None);
-    assert_eq!(rt; r.after(thread(4)), Some(thread(1)));
-    assert_eq!(rt; r.after(thread(1)), None);
-    assert_eq!(rt; r.after(thread(3)), None);
+    let numbers = (
+        r.priorities(),
+        r.priority(thread(1)),
+        r.threshold(thread(1)),
+    );
+    assert_eq!(rt; numbers, (1024, Prio::new(10), Thresh::new(5)));
+    let first = [r.first_at(Prio::new(10)), r.first_at(Prio::new(5))];
+    assert_eq!(rt; first, [Some(thread(4)), None]);
+    let next = [4, 1, 3].map(|t| r.after(thread(t)));
+    assert_eq!(rt; next, [Some(thread(1)), None, None]);
+    let ready = [1, 5].map(|t| r.is_ready(thread(t)));
+    assert_eq!(rt; ready, [true, false]);
     Ok(())
 }
 
@@ -363,9 +366,12 @@ fn restore_two(r: &mut Ready, a: ThreadNo, c: ThreadNo) -> bool {
 fn a_restored_state_goes_on(rt: HostRuntime) -> Result<(), Fail> {
     let mut r = Ready::new(rt.alloc(), 32).map_err(|_| "no memory")?;
     follow(&mut r, NUMBERS)?;
-    assert!(rt; restore_two(&mut r, thread(1), thread(3)));
-    assert_eq!(rt; r.running(), Some(thread(3)));
-    assert!(rt; r.is_held(thread(1)) && r.is_ready(thread(1)) && !r.is_held(thread(3)));
+    let may = restore_two(&mut r, thread(1), thread(3));
+    let held = [1, 3].map(|t| r.is_held(thread(t)));
+    assert_eq!(rt;
+        (may, r.running(), held),
+        (true, Some(thread(3)), [true, false])
+    );
     follow(
         &mut r,
         &[
