@@ -23,7 +23,7 @@ keeps_bus (Stores a n value next) bus = record { «module» = refl; guard = refl
 keeps_bus (Calls next) bus = record { «module» = refl; guard = refl; memory = refl }
 keeps_bus (Faults cause) bus = record { «module» = refl; guard = refl; memory = refl }
 
--- so many instructions before a burst
+-- the given number of instructions before a burst
 abbrev pub behind : ℕ → Burst → Burst
 behind k b = record b { done = k + b.done }
 
@@ -71,7 +71,7 @@ no_call_stays (Stores a w value next) h stops other = absurd (stops refl)
 no_call_stays (Calls next) h stops other = absurd (other refl)
 no_call_stays (Faults cause) h stops other = refl
 
--- behind a call pc is 4 more
+-- after a call pc is 4 more
 pub called_back : (h : HartState) → h.pc < 2 ^ 32 → h ≡ before_call (advanced h)
 called_back h word =
     let pc : h.pc ≡ ((h.pc + 4) % 2 ^ 32 + (2 ^ 32 - 4)) % 2 ^ 32 = omega (arith, word) in

@@ -47,7 +47,7 @@ regions_stay lower w e world = (
   event_modules w e (λ ms. regions_of 0 ms ≡ regions_of 0 w.modules) refl (λ m state. regions_of-with_state 0 w.modules m state),
 )
 
--- what stands in a list stands behind two more
+-- what stands in a list stands after two more
 behind_two : (xs : List Region) (x y z : Region) → Contains xs x → Contains (y ∷ z ∷ xs) x
 behind_two xs x y z stands = (suc (suc stands.0), omega (arith, stands.1), stands.2)
 

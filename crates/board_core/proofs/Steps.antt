@@ -1,4 +1,4 @@
--- A thread's registers, and what is behind a burst.
+-- A thread's registers, and what is after a burst.
 use Rattle.std.proofs.Common.{◌≡◌, ◌≢◌, ℕ, ◌+◌, ◌<◌, ◌≤◌, List, length, set, Option, None, Some, refl, sym, ap, ◌∙◌, ⊎_elim}
 use Rattle.std.proofs.lemmas.Bool.{cases_lt}
 use Rattle.std.proofs.lemmas.List.{get_or-set_same, set-get_or, set-set, set_past}

@@ -1,4 +1,4 @@
--- A turn of the machine is so many steps of the written machine: a burst, one instruction after another, and what is behind it.
+-- A turn of the machine is the given number of steps of the written machine: a burst, one instruction after another, and what is after it.
 use Rattle.std.proofs.Common.{◌≡◌, ℕ, zero, suc, ◌+◌, ◌-◌, ◌<◌, ◌≤◌, List, [], ◌∷◌, length, replicate, Option, None, Some, refl, sym, ap, ◌∙◌, subst, one-add, arith}
 use Rattle.std.proofs.lemmas.List.{replicate_more}
 use Rattle.std.proofs.lemmas.List.Elements.{All-weaker}
@@ -158,7 +158,7 @@ idle_leads (suc n) w world idle =
 abbrev after_turn : World → Turn → World
 after_turn w u = record w { kernel = u.parts.kernel; memory = u.parts.memory; modules = u.parts.modules; steps = w.steps + u.made }
 
--- behind a burst comes its end, if it has one
+-- after a burst comes its end, if it has one
 turn_leads_by : Laws → (w : World) (t n : ℕ) (b : Burst) (end : Option Effect) → IsWorld w → w.kernel.ready.run ≡ Some t
     → Ends (module_of w.kernel t) n b.done b.hart b.memory end → BurstLeads w t b
     → IsSoundKernel (turn_by w.kernel w.modules t b end).parts.kernel → IsSoundMemory (turn_by w.kernel w.modules t b end).parts.memory

@@ -33,7 +33,8 @@ contents images = map (λ image. image.items) images
 abbrev pub free_ram : ℕ → List Range
 free_ram ram = record { base = ram_base; size = ram } ∷ []
 
--- where modules lie in RAM of so many bytes, or the number of the first that finds no room
+-- where modules lie in RAM of the given number of bytes, or the number of the first that finds no
+-- room
 abbrev pub places_in : ℕ → List Preamble → Result (List Placed) ℕ
 places_in ram ps = placement (free_ram ram) (map want_of ps)
 

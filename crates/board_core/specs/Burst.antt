@@ -32,7 +32,8 @@ abbrev pub burst : (m n : ℕ) → HartState → Memory → Burst
 burst m zero h g = record { done = 0; hart = h; memory = g; end = None }
 burst m (suc n) h g = burst_by (burst m n) h g (executed (seen m g) h)
 
--- how a burst ended, Done where all its instructions completed, and the registers behind its last instruction
+-- how a burst ended, Done where all its instructions completed, and the registers after its last
+-- instruction
 abbrev pub out_at : Option Effect → Out
 out_at None = Done
 out_at (Some e) = out_of e
@@ -41,16 +42,16 @@ abbrev pub hart_at : Option Effect → HartState → HartState
 hart_at None h = h
 hart_at (Some e) h = hart_after e h
 
--- the registers before a call, by those behind it
+-- the registers before a call, by those after it
 abbrev pub before_call : HartState → HartState
 before_call h = record h { pc = (h.pc + (2 ^ 32 - 4)) % 2 ^ 32 }
 
--- a turn: how many steps were made, and the kernel, the memory and the modules behind them
+-- a turn: how many steps were made, and the kernel, the memory and the modules after them
 pub record Turn : Type 0 where
   pub made : ℕ
   pub parts : Parts
 
--- a thread's burst, and the call or the fault behind it
+-- a thread's burst, and the call or the fault after it
 abbrev pub turn_by : Kernel → List Module → ℕ → Burst → Option Effect → Turn
 turn_by k ms t b None = record { made = b.done; parts = parts (with_hart k t b.hart) b.memory ms }
 turn_by k ms t b (Some e) = record { made = b.done + 1; parts = after_effect (with_hart k t b.hart) b.memory ms t e }

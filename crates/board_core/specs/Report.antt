@@ -1,4 +1,4 @@
--- What a report tells of the board.
+-- What a report says of the board.
 use Rattle.std.specs.Prelude.{ℕ, zero, suc, ◌+◌, ◌*◌, ◌==◌, nat_le, false, List, [], ◌∷◌, ◌++◌, length, drop, count_by, Option, None, Some, if◌then◌else◌}
 use Rattle.std.specs.List.{slice_index_or}
 use Rattle.std.specs.Option.{option_map, option_to_list}
@@ -28,12 +28,12 @@ use Rattle.board_core.specs.Action.{device_of}
 use Rattle.board_core.specs.World.{World, WaitEnd, End, Satisfied, TimedOut, Aborted, Deleted, Gone, device_at}
 use Rattle.board_core.specs.declared.device.Device.{Device}
 
--- what is told of each number below n, from 0 on
+-- what is said of each number below n, from 0 on
 unfoldable pub each : {R : Type 0} → ℕ → (ℕ → R) → List R
 each zero row = []
 each (suc n) row = each n row ++ row n ∷ []
 
--- what is told of some of the numbers below n, from 0 on
+-- what is said of some of the numbers below n, from 0 on
 unfoldable pub some : {R : Type 0} → ℕ → (ℕ → Option R) → List R
 some zero row = []
 some (suc n) row = some n row ++ option_to_list (row n)

@@ -24,7 +24,7 @@ use std::alloc::{AllocError, Global};
 use tx_types::{Code, ModNo, NoMemory};
 
 /// Why a board isn't booted: an image that breaks a rule, or the first module that finds no room;
-/// or want of memory.
+/// or out of memory.
 #[derive(Clone, Copy, Debug, PartialEq, Eq)]
 pub enum BootErr {
     NoMemory,
@@ -145,7 +145,7 @@ fn booted_modules(alloc: Global, board: &Board, images: &[Vec<u8>]) -> Result<In
     })
 }
 
-/// So many devices of which nothing was taken.
+/// The given number of devices of which nothing was taken.
 fn fresh_devices(alloc: Global, n: usize) -> Result<Vec<Device>, AllocError>
     ensures { IfOk result (λ ds. ds.items ≡ replicate n fresh_device) }
 {
@@ -164,10 +164,10 @@ fn copy_of(board: &Board) -> Result<Board, AllocError>
 }
 
 impl Machine {
-    /// Boots a board with the images of its modules, in their order, and with room for so many
-    /// interrupts: the images lie in RAM, which is zero elsewhere, and the modules that are to start
-    /// were started in their order. `Image` where an image breaks a rule, with the first one's number;
-    /// then `NoRoom`, with the number of the first module that finds no room.
+    /// Boots a board with the images of its modules, in their order, and with room for the given
+    /// number of interrupts: the images lie in RAM, which is zero elsewhere, and the modules that
+    /// are to start were started in their order. `Image` where an image breaks a rule, with the
+    /// first one's number; then `NoRoom`, with the number of the first module that finds no room.
     pub fn boot(
         alloc: Global,
         board: &Board,

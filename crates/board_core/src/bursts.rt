@@ -9,16 +9,16 @@ use region_guard::Guard;
 use rv_core::{Hart, Out, step};
 use tx_types::ModNo;
 
-/// How far code ran: how many instructions completed, and how the one behind them ended; `Done` where
-/// as many completed as were asked for.
+/// How far code ran: how many instructions completed, and how the one after them ended; `Done`
+/// where as many completed as were asked for.
 #[derive(Clone, Copy, Debug, PartialEq, Eq)]
 pub struct BurstEnd {
     pub done: u32,
     pub out: Out,
 }
 
-/// Executes a module's code from pc on until an instruction doesn't complete, at most so many. Behind a
-/// call pc is past it; behind a fault nothing of the instruction was done.
+/// Executes a module's code from pc on until an instruction doesn't complete, at most the given
+/// number. After a call pc is past it; after a fault nothing of the instruction was done.
 pub fn burst(hart: &mut Hart, guard: &mut Guard, module: ModNo, most: u32) -> BurstEnd
     ensures done { result.done ≡ (burst «module» most hart.old guard.old).done }
     ensures out { result.out ≡ out_at (burst «module» most hart.old guard.old).end }

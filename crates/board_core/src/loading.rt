@@ -16,7 +16,7 @@ use region_guard::{Guard, Region, Rights};
 use std::alloc::{AllocError, Global};
 use tx_types::{ModNo, NoMemory};
 
-/// RAM of so many bytes, zero but for each image at its module's code.
+/// RAM of the given number of bytes, zero but for each image at its module's code.
 fn ram_with(
     alloc: Global,
     size: u32,
@@ -61,7 +61,7 @@ fn regions(alloc: Global, rows: &[(Preamble, Placed)]) -> Result<Vec<Region>, Al
     Ok(regions)
 }
 
-/// RAM behind regions that don't meet.
+/// RAM with regions that don't meet.
 fn guarded(alloc: Global, ram: Ram, regions: &[Region]) -> Result<Guard, NoMemory>
     requires { IsSound (record { regions = regions.now; bytes = ram }) }
     ensures { IfOk result (λ g. g ≡ record { regions = regions.now; bytes = ram }) }

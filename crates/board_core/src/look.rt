@@ -1,4 +1,4 @@
-//! What a report tells of a machine.
+//! What a report says of a machine.
 ghost use Rattle.std.specs.Prelude.{◌≡◌, ◌<◌, All, IfOk};
 ghost use Rattle.board_report.specs.Printable.{IsPrintable};
 ghost use Rattle.board_core.specs.Laws.{IsWorld};

@@ -76,7 +76,7 @@ impl Machine {
         }
     }
 
-    /// Makes at least one step and at most so many, and says how many.
+    /// Makes at least one step and at most the given number, and says how many.
     fn turn(&mut self, most: u32) -> u32
         requires some { 0 < most }
         requires room { step_count self.old.history + most ≤ 100000000 }

@@ -35,7 +35,7 @@ fn preambles(alloc: Global, images: &[Vec<u8>]) -> Result<Vec<Preamble>, BootErr
     Ok(preambles)
 }
 
-/// What modules want of memory.
+/// How much memory modules need.
 fn wants(alloc: Global, preambles: &[Preamble]) -> Result<Vec<Want>, AllocError>
     requires { All HasSizes preambles.now }
     ensures { IfOk result (λ ws. ws.items ≡ map want_of preambles.now) }
@@ -47,7 +47,7 @@ fn wants(alloc: Global, preambles: &[Preamble]) -> Result<Vec<Want>, AllocError>
     Ok(wants)
 }
 
-/// Where modules lie in RAM of so many bytes, or the first that finds no room.
+/// Where modules lie in RAM of the given number of bytes, or the first that finds no room.
 fn places(alloc: Global, ram: u32, preambles: &[Preamble]) -> Result<Vec<Placed>, BootErr>
     requires ram { ram < 2 ^ 31 }
     requires few { length preambles.now ≤ 16 }

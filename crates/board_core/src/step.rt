@@ -1,8 +1,8 @@
-//! Steps of the board: the running thread's next instructions, and the whole call or the fault behind
-//! them.
+//! Steps of the board: the running thread's next instructions, and the whole call or the fault
+//! after them.
 //!
 //! A step touches what its instruction touches, and no table is looked through. Only a call or a
-//! fault can change who runs, so that is asked behind them alone.
+//! fault can change who runs, so that is asked after them alone.
 ghost use Rattle.std.specs.Prelude.{◌≡◌, Some};
 ghost use Rattle.kernel_state.specs.Kernel.{thread};
 ghost use Rattle.kernel_state.specs.Sound.{IsSound};
@@ -18,8 +18,8 @@ use region_guard::Guard;
 use rv_core::Out;
 use tx_types::ThreadNo;
 
-/// Makes the steps up to the next call or fault, with that, at most so many, and says how many; all
-/// of them where no thread runs.
+/// Makes the steps up to the next call or fault, with that, at most the given number, and says how
+/// many; all of them where no thread runs.
 pub(crate) fn turn(k: &mut Kernel, g: &mut Guard, ms: &mut Manager, most: u32) -> u32
     requires { IsSound k.old }
     ensures made { result ≡ (turned most k.old g.old ms.old k.old.ready.run).made }

@@ -1,4 +1,4 @@
--- What reading answers, by what it should: want of memory is free.
+-- What reading answers, by what it should: running out of memory is always free.
 use Rattle.std.specs.Prelude.{◌≡◌, ℕ, if◌then◌else◌, List, Option, Some, None, Result, Ok, Err}
 use Rattle.std.specs.Str.{is_utf8}
 use Rattle.toml.specs.Data.{Members}
@@ -8,7 +8,7 @@ use Rattle.board_file.specs.declared.board.Board.{Board}
 use Rattle.board_file.specs.declared.refusal.BoardErr.{BoardErr}
 use Rattle.board_file.specs.declared.refusal.BoardErr.TheVariants.{NoMemory, NotToml, Field}
 
--- an error names the path, unless it is want of memory
+-- an error names the path, unless it is out of memory
 abbrev pub Names : List ℕ → BoardErr → Type 0
 Names path NoMemory = Unit {0}
 Names path NotToml = ⊥

@@ -32,7 +32,7 @@ module_of part earlier = do
 abbrev pub action_of : Data → Option Action
 action_of d = option_and_then (λ text. if bytes_eq text (codes "resume") then Some Resume else None) (as_str d)
 
--- the words so many times over
+-- the words the given number of times over
 abbrev pub repeated : ℕ → List ℕ → List ℕ
 repeated zero words = []
 repeated (suc n) words = repeated n words ++ words
@@ -41,7 +41,7 @@ repeated (suc n) words = repeated n words ++ words
 abbrev pub script_words : List BoardDevice → ℕ
 script_words ds = sum_by (λ (d : BoardDevice). length d.script) ds
 
--- the words so many times over, where all scripts have at most 65536 together
+-- the words the given number of times over, where all scripts have at most 65536 together
 abbrev pub script_within : ℕ → ℕ → List ℕ → Option (List ℕ)
 script_within before n words = if nat_le (before + n * length words) 65536 then Some (repeated n words) else None
 

@@ -54,7 +54,7 @@ abbrev pub is_name_byte : ℕ → Bool
 is_name_byte b =
     (((nat_le 0x61 b && nat_le b 0x7A) || (nat_le 0x41 b && nat_le b 0x5A)) || (nat_le 0x30 b && nat_le b 0x39)) || (b == 0x5F || b == 0x2D)
 
--- 1 to so many bytes
+-- 1 to the given number of bytes
 abbrev pub is_of_length : ℕ → List ℕ → Bool
 is_of_length most bytes = nat_le 1 (length bytes) && nat_le (length bytes) most
 
@@ -68,7 +68,7 @@ name_of d = passing is_name (as_str d)
 abbrev pub name_unless : (List ℕ → Bool) → Data → Option (List ℕ)
 name_unless taken d = passing (λ name. not (taken name)) (name_of d)
 
--- a string of 1 to so many bytes
+-- a string of 1 to the given number of bytes
 abbrev pub text_within : ℕ → Data → Option (List ℕ)
 text_within most d = passing (is_of_length most) (as_str d)
 

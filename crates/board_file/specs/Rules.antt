@@ -4,7 +4,7 @@ use Rattle.board_file.specs.Board.{script_words}
 use Rattle.board_file.specs.declared.board.Board.{Board}
 use Rattle.board_file.specs.declared.board.BoardShow.{BoardShow}
 
--- a show of one of so many modules
+-- a show of one of the given number of modules
 pub record IsShow (modules : ℕ) (s : BoardShow) : Type 0 where
   pub «module» : s.«module» < modules
   pub offset : s.offset ≤ 16777212

@@ -81,7 +81,7 @@ fn words(part: &Part) -> Result<Vec<u32>, BoardErr>
     }
 }
 
-/// The words so many times over.
+/// The words the given number of times over.
 fn repeated(alloc: Global, words: &[u32], n: u32) -> Result<Vec<u32>, AllocError>
     ensures { IfOk result (λ all. all.items ≡ repeated n words.now) }
 {
@@ -92,7 +92,8 @@ fn repeated(alloc: Global, words: &[u32], n: u32) -> Result<Vec<u32>, AllocError
     Ok(all)
 }
 
-/// Whether the words so many times over, beside these, are no more than all scripts may have.
+/// Whether the words the given number of times over, beside these, are no more than all scripts may
+/// have.
 fn fits(words: &[u32], n: u32, before: usize) -> bool
     requires { before ≤ 65536 }
     ensures { result ≡ nat_le (before + n * length words.now) 65536 }
@@ -103,7 +104,7 @@ fn fits(words: &[u32], n: u32, before: usize) -> bool
     }
 }
 
-/// A script, beside so many words of the scripts before it.
+/// A script, beside the given number of words of the scripts before it.
 fn script(part: &Part, words: &[u32], n: u32, before: usize) -> Result<Script, BoardErr>
     requires { before ≤ 65536 }
     ensures script { Reads (named (key_path (part_view part.now).path (codes "script")) (script_within before n words.now)) result }
@@ -130,7 +131,7 @@ fn action(part: &Part) -> Result<Action, BoardErr>
     }
 }
 
-/// A device, where these come before it, whose scripts have so many words.
+/// A device, where these come before it, whose scripts have the given number of words.
 fn device(part: &Part, earlier: &[BoardDevice], before: usize) -> Result<BoardDevice, BoardErr>
     requires words { before ≡ script_words earlier.now }
     requires most { before ≤ 65536 }

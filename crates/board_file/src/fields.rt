@@ -23,7 +23,7 @@ pub(crate) fn in_range(value: &Value, low: u32, high: u32, step: u32) -> Option<
     }
 }
 
-/// Whether a text has 1 to so many bytes.
+/// Whether a text has 1 to the given number of bytes.
 fn is_of_length(text: &str, most: usize) -> bool
     ensures { result ≡ is_of_length most text.now }
 {
@@ -60,7 +60,7 @@ pub(crate) fn name_of(value: &Value) -> Option<&str>
     }
 }
 
-/// A string of 1 to so many bytes.
+/// A string of 1 to the given number of bytes.
 pub(crate) fn text_within(value: &Value, most: usize) -> Option<&str>
     ensures { option_copied result ≡ text_within most (view value.now) }
 {

@@ -139,7 +139,7 @@ impl<'a> Part<'a> {
         }
     }
 
-    /// A string of 1 to so many bytes.
+    /// A string of 1 to the given number of bytes.
     pub(crate) fn text(&self, key: &str, most: usize) -> Result<PathText, BoardErr>
         ensures { Reads (required (text_within most) (part_view self.now) key.now) result }
     {
@@ -168,7 +168,7 @@ impl<'a> Part<'a> {
         }
     }
 
-    /// An array of so many entries at most, if there is one.
+    /// An array of the given number of entries at most, if there is one.
     pub(crate) fn optional_array(
         &self,
         key: &str,

@@ -370,7 +370,7 @@ fn paths_give_their_text_back(rt: HostRuntime) -> Result<(), Fail> {
     Ok(())
 }
 
-/// A file of so many modules, with images whose names have so many bytes.
+/// A file of the given number of modules, with images whose names have the given number of bytes.
 fn many(alloc: Global, modules: u32, image: u32) -> Result<String, AllocError> {
     let mut text = String::from_str(alloc, TOP)?;
     for i in 0..modules {

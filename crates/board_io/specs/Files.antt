@@ -11,7 +11,7 @@ use Rattle.board_io.specs.Faults.{risen}
 abbrev pub IsFrontOf : Option (List ℕ) → ℕ → List ℕ → Type 0
 IsFrontOf file max bytes = IsSomeAnd file (λ held. bytes ≡ take (max + 1) held)
 
--- the name isn't held, or there was a fault; where it isn't told what is held, there was a fault
+-- the name isn't held, or there was a fault; where it isn't known what is held, there was a fault
 abbrev pub IsMissing : Option (List ℕ → Option (List ℕ)) → List ℕ → Type 0 → Type 0
 IsMissing None name fault = fault
 IsMissing (Some at) name fault = (at name ≡ None) ⊎ fault

@@ -1,4 +1,4 @@
--- What a write appends to the bytes that a sink holds, where they are told, and a sink in memory.
+-- What a write appends to the bytes that a sink holds, where they are known, and a sink in memory.
 use Rattle.std.specs.Prelude.{◌≡◌, ℕ, ◌==◌, Bool, if◌then◌else◌, List, [], ◌∷◌, ◌++◌, length, ◌<◌, Option, None, Some, Result, Ok, Err, take, ◌⊎◌}
 use Rattle.std.specs.Io.KnownBytes.{Appends}
 use Rattle.board_io.specs.Faults.{Rose, risen}

@@ -1,7 +1,7 @@
 //! Files by name, as the command line reads them.
 //!
 //! What is held under a name never changes here, and each fault of reading raises a count that never
-//! falls, so a failed read can be told from a file that isn't there.
+//! falls, so a failed read can be distinguished from a file that isn't there.
 ghost use Rattle.std.specs.Prelude.{◌≡◌, ℕ, ◌+◌, ◌^◌, ◌<◌, ◌≤◌, ◌==◌, List, Option, Some, IfOk, IfSome, IsErrOf, IsTrue};
 ghost use Rattle.std.specs.List.{list_any};
 ghost use Rattle.std.specs.Option.{option_copied};
@@ -23,7 +23,7 @@ pub enum ReadErr {
 
 /// Files that are read whole, by name.
 pub trait Files {
-    /// The bytes held under each name, where they are told.
+    /// The bytes held under each name, where they are known.
     ghost held: { Self → Option (List ℕ → Option (List ℕ)) };
 
     /// How many reads had a fault; it stands still at its type's end.

@@ -1,8 +1,9 @@
 //! The outside as the command line sees it: files that are read, a sink that is written, a gate that
 //! delays devices, and the status that a call ends with.
 //!
-//! These are traits, so that what is read and written can be held in memory and told in contracts. Files
-//! and sinks count their faults: a call that failed by the outside shows it by a higher count.
+//! These are traits, so that what is read and written can be held in memory and named in contracts.
+//! Files and sinks count their faults: a call that failed by the outside shows it by a higher
+//! count.
 #![tactic(auto)]
 
 mod files;

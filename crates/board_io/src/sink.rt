@@ -17,7 +17,7 @@ pub enum WriteErr {
 
 /// What takes the text that is written.
 pub trait Sink {
-    /// The bytes written so far, where they are told.
+    /// The bytes written so far, where they are known.
     ghost written: { Self → Option (List ℕ) };
 
     /// How many writes had a fault; it stands still at its type's end.
@@ -31,7 +31,7 @@ pub trait Sink {
             bytes.now result };
 }
 
-/// A sink that keeps nothing, tells nothing of what was written and never fails.
+/// A sink that keeps nothing, says nothing of what was written and never fails.
 #[derive(Clone, Copy, Debug, PartialEq, Eq)]
 pub struct SureSink;
 

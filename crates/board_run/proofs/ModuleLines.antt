@@ -19,7 +19,7 @@ line_first i ms ws ps m w p line inside all_ws all_ps here is =
     modules_text-drop i i (i + 1) ms ws ps m w p (omega arith) inside (omega arith) (omega arith)
     ∙ ap (λ (line : List ℕ). line ++ modules_text (i + 1) (drop (i + 1) ms) (drop (i + 1) ws) (drop (i + 1) ps)) (sym text)
 
--- a text whose next part failed has failed, whatever stands behind
+-- a text whose next part failed has failed, whatever stands after
 pub wrote_front : {T E : Type 0} (before mid now : ℕ) (old part new : Option (List ℕ)) (front line rest whole : List ℕ) (r : Result T E) → before ≤ mid → IsErr r → front ++ (line ++ rest) ≡ whole → Appends old part front → Wrote mid now part new line r → Wrote before now old new whole r
 wrote_front before mid now old part new front line rest whole r later failed same front_is line_is =
     subst (λ (text : List ℕ). Wrote before now old new text r) same (wrote_more before mid now old part new front (line ++ rest) r later front_is (wrote_part mid now part new line rest r failed line_is))

@@ -12,11 +12,11 @@ take-min [] y n = grind (arith, common_steps)
 take-min (a ∷ x) y zero = grind (arith, common_steps)
 take-min (a ∷ x) y (suc n) = grind (arith, common_steps, take-min x y n)
 
--- a front of a text is a front of a longer one
+-- a prefix of a text is a prefix of a longer one
 pub AppendsFront-longer : (old new : Option (List ℕ)) (x y : List ℕ) → AppendsFront old new x → AppendsFront old new (x ++ y)
 AppendsFront-longer old new x y p = (min p.0 (length x), subst (Appends old new) (sym (take-min x y p.0)) p.1)
 
--- a text and then a front of the next
+-- a text and then a prefix of the next
 pub AppendsFront-after : (old mid new : Option (List ℕ)) (x y : List ℕ) → Appends old mid x → AppendsFront mid new y → AppendsFront old new (x ++ y)
 AppendsFront-after old mid new x y p q =
     (length x + q.0, subst (Appends old new) (sym (take-append-add x y q.0)) (Appends-trans old mid new x (take q.0 y) p q.1))

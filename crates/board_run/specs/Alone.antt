@@ -8,7 +8,7 @@ use Rattle.region_guard.specs.Memory.{Memory, ram_base}
 use Rattle.region_guard.specs.declared.region.Region.{Region}
 use Rattle.region_guard.specs.declared.region.Rights.TheVariants.{Code, ReadWrite}
 
--- its code lies at the start of RAM, and its data behind it
+-- its code lies at the start of RAM, and its data after it
 abbrev pub alone_at : Preamble → Placed
 alone_at p = record { code_base = ram_base; data_base = rounded_up 32 (ram_base + p.code_size) }
 

@@ -17,7 +17,7 @@ use Rattle.board_run.specs.declared.refusal.Stop.TheVariants.{ReadFault, Refused
 use Rattle.board_io.specs.declared.status.Status.{Status}
 use Rattle.board_io.specs.declared.status.Status.TheVariants.{Done, Usage, ReadFault as StatusReadFault, Refused as StatusRefused, NoMemory as StatusNoMemory}
 
--- the run of an image that lies alone, for at most so many instructions
+-- the run of an image that lies alone, for at most the given number of instructions
 unfoldable pub image_ran : ℕ → List ℕ → Result Ran Stop
 image_ran most bytes = do
   p ← refused_image 0 (preamble bytes)

@@ -8,7 +8,7 @@ use Rattle.board_run.specs.declared.refusal.Stop.TheVariants.{ReadFault, Refused
 use Rattle.board_io.specs.declared.status.Status.{Status}
 use Rattle.board_io.specs.declared.status.Status.TheVariants.{ReadFault as StatusReadFault, Refused as StatusRefused, WriteFault, NoMemory as StatusNoMemory}
 
--- with a status, the text written whole; or with a fault of writing, a front of it written
+-- with a status, the text written whole; or with a fault of writing, a prefix of it written
 abbrev pub Ends : (sink_rose : Type 0) → (old new : Option (List ℕ)) → List ℕ → Status → Status → Type 0
 Ends sink_rose old new text status result =
     ((result ≡ status) × Appends old new text) ⊎ ((result ≡ WriteFault) × sink_rose × AppendsFront old new text)

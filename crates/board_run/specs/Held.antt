@@ -11,11 +11,11 @@ abbrev pub held_file : Option (List ℕ) → Result (List ℕ) Stop
 held_file None = Err ReadFault
 held_file (Some bytes) = Ok bytes
 
--- so many bytes at most, else they are refused
+-- the given number of bytes at most, else they are refused
 abbrev pub within : ℕ → Refusal → List ℕ → Result (List ℕ) Stop
 within most refusal bytes = if nat_lt most (length bytes) then Err (Refused refusal) else Ok bytes
 
--- the file of a name, with so many bytes at most
+-- the file of a name, with the given number of bytes at most
 abbrev pub file_at : ℕ → Refusal → List ℕ → (List ℕ → Option (List ℕ)) → Result (List ℕ) Stop
 file_at most refusal name at = do
   bytes ← held_file (at name)

@@ -18,7 +18,7 @@ use Rattle.board_run.specs.declared.refusal.Refusal.TheVariants.{LogTooLarge}
 use Rattle.board_run.specs.declared.refusal.Stop.{Stop}
 use Rattle.board_run.specs.declared.replay.Replayed.{Replayed}
 
--- the history in the log of a name, on a board with so many devices
+-- the history in the log of a name, on a board with the given number of devices
 unfoldable pub log_at : (devices : ℕ) → List ℕ → (List ℕ → Option (List ℕ)) → Result (List Entry) Stop
 log_at devices name at = do
   bytes ← file_at 4194304 LogTooLarge name at
@@ -54,7 +54,7 @@ session_at board log at = do
 abbrev pub session : Replayed → Session
 session r = record { history = r.history.entries; report = r.report }
 
--- the lines of a report, one behind the other
+-- the lines of a report, one after the other
 abbrev pub report_text : Report → List ℕ
 report_text r = flat_map (λ line. line) (report_lines r)
 

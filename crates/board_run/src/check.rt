@@ -37,7 +37,7 @@ fn want_in(number: u8, image: &[u8]) -> Result<Want, Stop>
     Ok(want_of(&p))
 }
 
-/// What the modules of images want of memory, in their order.
+/// How much memory the modules of images need, in their order.
 fn wants_in(alloc: Global, images: &[Vec<u8>]) -> Result<Vec<Want>, Stop>
     requires { length images.now ≤ 16 }
     ensures wants { GivesHere (λ v. v.items) (each want_in 0 (map (λ v. v.items) images.now)) result }

@@ -39,7 +39,8 @@ pub struct Ran {
     pub hart: Hart,
 }
 
-/// The run of an image that lies alone, for at most so many instructions, or its refusal.
+/// The run of an image that lies alone, for at most the given number of instructions, or its
+/// refusal.
 #[tactic(auto, using(crate::proofs::LyingAlone::lies_alone), unfolding(crate::specs::Due::image_ran))]
 fn image_ran(alloc: Global, image: &[u8], most: u32) -> Result<Ran, Stop>
     requires { length image.now ≤ MOST_IMAGE }
@@ -52,7 +53,7 @@ fn image_ran(alloc: Global, image: &[u8], most: u32) -> Result<Ran, Stop>
     Ok(memory_ran(&mut guard, hart, most))
 }
 
-/// Reads an image and runs it alone, for at most so many instructions.
+/// Reads an image and runs it alone, for at most the given number of instructions.
 #[tactic(auto, using(crate::proofs::Step::steps), unfolding(crate::specs::Due::hart_ran))]
 pub fn hart_ran<F: Files>(alloc: Global, name: &str, most: u32, files: &mut F) -> Result<Ran, Stop>
     ensures held { F.held files.new ≡ F.held files.old }

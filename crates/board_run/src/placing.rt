@@ -8,7 +8,8 @@ use module_loader::{PlaceErr, Placed, Range, Want, place};
 use region_guard::RAM_BASE;
 use std::alloc::Global;
 
-/// The places of modules in RAM of so many bytes, or which is the first that finds no room.
+/// The places of modules in RAM of the given number of bytes, or which is the first that finds no
+/// room.
 #[tactic(auto, using(crate::proofs::Places::length_placement))]
 pub fn placed(alloc: Global, ram: u32, wants: &[Want]) -> Result<Vec<Placed>, Stop>
     requires ram { ram < 2 ^ 31 }

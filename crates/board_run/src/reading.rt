@@ -12,7 +12,7 @@ use std::alloc::Global;
 /// The most bytes that an image may have.
 pub const MOST_IMAGE: u32 = 1_048_576;
 
-/// The file of a name, which is refused where it has more than so many bytes.
+/// The file of a name, which is refused where it has more than the given number of bytes.
 pub fn file_of<F: Files>(
     alloc: Global,
     name: &str,

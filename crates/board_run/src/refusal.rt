@@ -1,4 +1,4 @@
-//! Why a call stops before its text: a fault of reading, a refused file, or want of memory.
+//! Why a call stops before its text: a fault of reading, a refused file, or out of memory.
 //!
 //! A refusal is printed as one line; the other two print nothing.
 ghost use Rattle.std.specs.Prelude.{◌≡◌, ◌<◌, ◌++◌, map, decimal, string_bytes, IfOk, OnOk};

@@ -39,7 +39,8 @@ pub struct Replayed {
     pub report: Report,
 }
 
-/// The history that bytes mean on a board with so many devices, or why they are refused.
+/// The history that bytes mean on a board with the given number of devices, or why they are
+/// refused.
 fn log_in(alloc: Global, bytes: &[u8], devices: u8) -> Result<History, Stop>
     requires { devices ≤ 16 }
     ensures log { GivesHere (λ h. h.entries) (refused_log (log_in devices bytes.now)) result }
@@ -52,7 +53,7 @@ fn log_in(alloc: Global, bytes: &[u8], devices: u8) -> Result<History, Stop>
     }
 }
 
-/// The history in the log of a name, on a board with so many devices.
+/// The history in the log of a name, on a board with the given number of devices.
 #[tactic(auto, using(crate::proofs::Step::steps), unfolding(crate::specs::Replay::log_at))]
 fn log_of<F: Files>(alloc: Global, name: &str, devices: u8, files: &mut F) -> Result<History, Stop>
     requires { devices ≤ 16 }

@@ -30,14 +30,14 @@ pub fn board_still<F: Files, S: Sink>(
     ensures read { F.faults files.old ≤ F.faults files.new }
     ensures written { S.faults sink.old ≤ S.faults sink.new }
 
-    // By what is due for the words and the files, where these tell what they hold.
+    // By what is due for the words and the files, where it is known what these hold.
     ensures answers { IfSome (F.held files.old) (λ at. Answers (due (map string_bytes words.now) at)
         (Rose (F.faults files.old) (F.faults files.new)) (Rose (S.faults sink.old) (S.faults sink.new))
         (S.written sink.old) (S.written sink.new) result) }
     ensures complete { IfSome (F.held files.old) (λ at. Completes (due (map string_bytes words.now) at)
         (Rose (F.faults files.old) (F.faults files.new)) (Rose (S.faults sink.old) (S.faults sink.new)) result) }
 
-    // Where the files don't tell what they hold, a fault of reading was counted.
+    // Where it isn't known what the files hold, a fault of reading was counted.
     ensures untold { IfNone (F.held files.old) (result ≡ Status.ReadFault → Rose (F.faults files.old) (F.faults files.new)) }
 
     // By the words alone, whatever the files hold.

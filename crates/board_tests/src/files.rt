@@ -1,4 +1,5 @@
-//! Files in memory, read through the trait: fronts, names that aren't held, and reads that are to fail.
+//! Files in memory, read through the trait: prefixes, names that aren't held, and reads that are to
+//! fail.
 ghost use Rattle.std.specs.Prelude.{◌^◌, ◌<◌};
 
 use board_run::{Files, MemFiles, ReadErr};

@@ -1,4 +1,4 @@
-//! Sinks, written through the trait: pieces whole, fronts of the pieces whose writes are to fail.
+//! Sinks, written through the trait: pieces whole, prefixes of the pieces whose writes are to fail.
 use board_run::{MemSink, Sink, SureSink, WriteErr};
 use std::test::Fail;
 

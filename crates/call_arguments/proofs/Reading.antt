@@ -1,4 +1,4 @@
--- A text is what is read so far, and then the text behind it.
+-- A text is what is read so far, and then the text after it.
 use Rattle.std.proofs.Common.{◌≡◌, ◌≢◌, ℕ, suc, ◌+◌, ◌-◌, ◌<◌, List, [], ◌∷◌, ◌++◌, Option, Some, None, Result, Ok, Err, refl, ap, sym, ◌∙◌, cond, arith, append_assoc}
 use Rattle.std.proofs.lemmas.Bool.{cond_both, eq-eqb, ne_eqb}
 use Rattle.std.proofs.lemmas.List.{append-nil}
@@ -36,7 +36,7 @@ before_all-push : (read : List ℕ) (b : ℕ) (rest : Result (List ℕ) ℕ) →
 before_all-push read b (Ok rest) = ap Ok (append_assoc read (b ∷ []) rest)
 before_all-push read b (Err code) = refl
 
--- the text is refused, or ends, or goes on, at the byte behind what is read
+-- the text is refused, or ends, or goes on, at the byte after what is read
 pub refused_here : (g : Memory) (m x i most : ℕ) (read : List ℕ) (all : Result (List ℕ) ℕ) → i < most → IsByteAt g m (x + i) None → before_all read (text_at g m (x + i) (most - i)) ≡ all → Err invalid_memory ≡ all
 refused_here g m x i most read all below outside whole =
     let left : most - i ≡ suc (most - (i + 1)) = omega arith in

@@ -16,6 +16,6 @@ text_at g m a (suc n) =
     if may g m Load a 1 then (if byte g a == 0 then Ok [] else before (byte g a) (text_at g m (a + 1) n))
     else Err invalid_memory
 
--- no name, or one of at most 31 bytes and a zero behind it
+-- no name, or one of at most 31 bytes and a zero after it
 abbrev pub name_at : Memory → ℕ → ℕ → Result (List ℕ) ℕ
 name_at g m x = if x == 0 then Ok [] else text_at g m x 32

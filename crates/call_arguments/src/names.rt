@@ -1,7 +1,7 @@
 //! Names that a module gives.
 //!
 //! A name is read byte by byte up to its zero, and a byte only once the module may load it: what lies
-//! behind the zero doesn't matter.
+//! after the zero doesn't matter.
 ghost use Rattle.std.specs.Prelude.{◌≡◌, ◌≢◌, ◌+◌, ◌<◌, ◌≤◌, All, IfOk, Some, None, length, if◌then◌else◌};
 ghost use Rattle.call_arguments.specs.Names.{name_at, text_at};
 ghost use Rattle.region_guard.specs.Memory.{byte, may};
@@ -44,7 +44,7 @@ fn text_at(g: &Guard, m: ModNo, x: u32) -> Result<Name, Code>
     }
 }
 
-/// The byte i addresses behind x, where module m may load it. No address is 2^32 or more.
+/// The byte i addresses after x, where module m may load it. No address is 2^32 or more.
 fn byte_at(g: &Guard, m: ModNo, x: u32, i: u32) -> Option<u8>
     ensures { result ≡ (if may g.now m Access.Load (x + i) 1 then Some (byte g.now (x + i)) else None) }
 {

@@ -84,7 +84,7 @@ newline-at fields more h =
     let short : length fields < length (fields ++ 10 ∷ more) = simp length-append (omega arith) in
     rw place (grind (arith, nat_tests, short))
 
--- the numbers of an interrupt's line, from behind
+-- the numbers of an interrupt's line, from after
 pub irq-numbers : (numbers : List ℕ) (d w : ℕ) → numbers ≡ numbers_of (Irq d w)
     → (take (length numbers - 8 - 1) numbers ≡ decimal d) × (slice_range numbers (length numbers - 8) (length numbers) ≡ hex w)
 irq-numbers numbers d w is =

@@ -16,7 +16,7 @@ ends_in_steps [] = false
 ends_in_steps (e ∷ []) = not (is_irq e)
 ends_in_steps (e ∷ f ∷ es) = ends_in_steps (f ∷ es)
 
--- an entry may come next: it isn't steps behind steps, and keeps the limits
+-- an entry may come next: it isn't steps after steps, and keeps the limits
 abbrev pub may_follow : List Entry → Entry → Bool
 may_follow es e = not (ends_in_steps es && not (is_irq e)) && nat_le (step_count (es ++ e ∷ [])) 100000000
     && nat_le (irq_count (es ++ e ∷ [])) 65536
@@ -27,7 +27,7 @@ with_step-append [] e = refl
 with_step-append (a ∷ []) e = refl
 with_step-append (a ∷ b ∷ es) e = ap (λ xs. a ∷ xs) (with_step-append (b ∷ es) e)
 
--- behind an interrupt it opens one
+-- after an interrupt it opens one
 with_step-irq : (es : List Entry) (d w : ℕ) → with_step (es ++ Irq d w ∷ []) ≡ (es ++ Irq d w ∷ []) ++ Steps 1 ∷ []
 with_step-irq es d w = with_step-append es (Irq d w) ∙ sym (append_assoc es (Irq d w ∷ []) (Steps 1 ∷ []))
 
@@ -113,7 +113,7 @@ history-front devices es e h = record {
 pub last-follows : (devices : ℕ) (es : List Entry) (e : Entry) → IsHistory devices (es ++ e ∷ []) → may_follow es e ≡ true
 last-follows devices es e h = grind (arith, nat_tests, parted-append es e, h.apart, h.steps, h.irqs)
 
--- a front of steps is one entry more than the interrupts can part
+-- a prefix of steps is one entry more than the interrupts can part
 abbrev open_steps : List Entry → ℕ
 open_steps [] = 0
 open_steps (Steps n ∷ es) = 1
@@ -164,7 +164,7 @@ history-opened devices es h ends less =
     let same : irq_count (es ++ Steps 1 ∷ []) ≤ 65536 = omega (arith, irq_count-append es (Steps 1), h.irqs) in
     history-append devices es (Steps 1) h (omega arith) (grind (arith, nat_tests))
 
--- an interrupt goes behind any entry
+-- an interrupt goes after any entry
 pub history-irq : (devices : ℕ) (es : List Entry) (d w : ℕ) → IsHistory devices es → d < devices → w < 2 ^ 32
     → irq_count es < 65536 → IsHistory devices (es ++ Irq d w ∷ [])
 history-irq devices es d w h small word less =
@@ -311,7 +311,7 @@ history-wider devices es few h = record {
   irqs = h.irqs;
 }
 
--- the front of a history is one
+-- the prefix of a history is one
 pub front-history : (devices : ℕ) (xs ys : List Entry) → IsHistory devices (xs ++ ys) → IsHistory devices xs
 front-history devices xs [] h = subst (IsHistory devices) (append-nil xs) h
 front-history devices xs (y ∷ ys) h =

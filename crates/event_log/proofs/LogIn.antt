@@ -166,7 +166,7 @@ guess-outcome devices before line (Some e) =
 read-line : (devices : ℕ) (before : List Entry) (line : List ℕ) → Outcome devices before line (with_line devices (Ok before) line)
 read-line devices before line = guess-outcome devices before line (guess (parts_of line))
 
--- behind a bad line nothing is read
+-- after a bad line nothing is read
 read-no-more : (devices : ℕ) (before : List Entry) (line : List ℕ) (lines : List (List ℕ))
     → with_line devices (Ok before) line ≡ Err (length before + 1)
     → fold (with_line devices) (Ok before) (line ∷ lines) ≡ Err (length before + 1)
@@ -174,7 +174,7 @@ read-no-more devices before line lines bad =
     ap (λ r. fold (with_line devices) r lines) bad
     ∙ fold_stays (with_line devices) (Err (length before + 1)) (λ l. refl) lines
 
--- the text of entries is read as those entries, and reading goes on behind it
+-- the text of entries is read as those entries, and reading goes on after it
 read-on : (devices : ℕ) (before es : List Entry) (rest : List ℕ) → devices ≤ 16 → IsHistory devices (before ++ es)
     → fold (with_line devices) (Ok before) (lines_of (text_of es ++ rest))
     ≡ fold (with_line devices) (Ok (before ++ es)) (lines_of rest)

@@ -33,12 +33,12 @@ parted [] = true
 parted (e ∷ []) = true
 parted (e ∷ f ∷ es) = (is_irq e || is_irq f) && parted (f ∷ es)
 
--- at least one step, or a word of one of so many devices
+-- at least one step, or a word of one of the given number of devices
 abbrev pub IsEntry : ℕ → Entry → Type 0
 IsEntry devices (Steps n) = 1 ≤ n
 IsEntry devices (Irq d w) = (d < devices) × (w < 2 ^ 32)
 
--- a history of a board with so many devices
+-- a history of a board with the given number of devices
 pub record IsHistory (devices : ℕ) (es : List Entry) : Type 0 where
   pub entries : All (IsEntry devices) es
   pub apart : parted es ≡ true
@@ -51,7 +51,7 @@ pub record IsSound (h : Log) : Type 0 where
   pub room : irq_count h.entries ≤ h.irqs
   pub at_most : h.irqs ≤ 65536
 
--- an entry with one step more behind it
+-- an entry with one step more after it
 abbrev pub stepped : Entry → List Entry
 stepped (Steps n) = Steps (n + 1) ∷ []
 stepped (Irq d w) = Irq d w ∷ Steps 1 ∷ []
@@ -62,7 +62,7 @@ with_step [] = Steps 1 ∷ []
 with_step (e ∷ []) = stepped e
 with_step (e ∷ f ∷ es) = e ∷ with_step (f ∷ es)
 
--- so many steps more, one by one
+-- the given number of steps more, one by one
 abbrev pub with_steps : ℕ → List Entry → List Entry
 with_steps zero es = es
 with_steps (suc n) es = with_steps n (with_step es)

@@ -8,7 +8,7 @@ use Rattle.event_log.specs.Text.{line_of}
 use Rattle.event_log.specs.declared.entry.Entry.{Entry}
 use Rattle.event_log.specs.declared.entry.Entry.TheVariants.{Steps, Irq}
 
--- the lines of a text, each with its newline; what stands behind the last newline is a line too
+-- the lines of a text, each with its newline; what stands after the last newline is a line too
 abbrev pub lines_of : List ℕ → List (List ℕ)
 lines_of [] = []
 lines_of (b ∷ bs) = if b == 10 then (b ∷ []) ∷ lines_of bs else onto_first b (lines_of bs)
@@ -27,17 +27,17 @@ guess _ = None
 abbrev pub entry_in : List ℕ → Option Entry
 entry_in line = option_and_then (λ e. if bytes_eq (line_of e) line then Some e else None) (guess (parts_of line))
 
--- at least one step, or a word of one of so many devices
+-- at least one step, or a word of one of the given number of devices
 abbrev pub is_entry : ℕ → Entry → Bool
 is_entry devices (Steps n) = nat_le 1 n
 is_entry devices (Irq d w) = nat_lt d devices && nat_lt w (2 ^ 32)
 
--- the entries are a history of a board with so many devices
+-- the entries are a history of a board with the given number of devices
 abbrev pub is_history : ℕ → List Entry → Bool
 is_history devices es =
     list_all (is_entry devices) es && parted es && nat_le (step_count es) 100000000 && nat_le (irq_count es) 65536
 
--- the entries and one more behind them, where that is a history
+-- the entries and one more after them, where that is a history
 abbrev pub longer : ℕ → List Entry → Entry → Option (List Entry)
 longer devices before e = let after = before ++ e ∷ [] in if is_history devices after then Some after else None
 

@@ -35,7 +35,7 @@ pub record IsLogText (devices : ℕ) (es : List Entry) (bytes : List ℕ) : Type
 abbrev pub Ends : ℕ → List Entry → List ℕ → Type 0
 Ends devices es text = (e : Entry) (more : List ℕ) → IsHistory devices (es ++ e ∷ []) → text ≡ line_of e ++ more → ⊥
 
--- a text begins with the line of an entry that may come next, so many bytes
+-- a text begins with the line of an entry that may come next, the given number of bytes
 pub record GoesOn (devices : ℕ) (es : List Entry) (text : List ℕ) (e : Entry) (n : ℕ) : Type 0 where
   pub lawful : IsEntry devices e
   pub history : IsHistory 16 (es ++ e ∷ [])

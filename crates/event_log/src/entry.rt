@@ -9,7 +9,7 @@ ghost use Rattle.event_log.specs.Text.{line_of};
 use board_values::DevNo;
 use tx_types::{Line, put_decimal, put_hex};
 
-/// What happened: so many steps of the board, or an interrupt of a device with a word.
+/// What happened: a number of steps of the board, or an interrupt of a device with a word.
 #[derive(Clone, Copy, Debug, PartialEq, Eq)]
 pub enum Entry {
     Steps(u32),
@@ -27,7 +27,7 @@ impl Entry {
         }
     }
 
-    /// Whether it is at least one step, or of one of so many devices.
+    /// Whether it is at least one step, or of one of the given number of devices.
     pub(crate) fn is_of(&self, devices: u8) -> bool
         ensures { IsTrue result ↔ IsEntry devices self.now }
     {

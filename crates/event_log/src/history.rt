@@ -36,7 +36,7 @@ impl Model for History {
 }
 
 impl History {
-    /// No entry yet, and room for so many interrupts.
+    /// No entry yet, and room for the given number of interrupts.
     pub fn reserve(alloc: Global, irqs: u32) -> Result<History, NoMemory>
         requires { irqs ≤ 65536 }
         ensures { IfOk result (λ h. h ≡ record { entries = []; irqs = irqs }) }
@@ -59,7 +59,7 @@ impl History {
         self.add_steps(1);
     }
 
-    /// So many steps more.
+    /// The given number of steps more.
     pub fn add_steps(&mut self, n: u32)
         requires { step_count self.old.entries + n ≤ 100000000 }
         ensures entries { self.new.entries ≡ with_steps n self.old.entries }

@@ -34,8 +34,8 @@ impl Model for PlainReplayer {
 }
 
 impl PlainReplayer {
-    /// A replayer with so many devices on which no event was made, with room for 100,000,000 steps and
-    /// so many interrupts.
+    /// A replayer with the given number of devices on which no event was made, with room for
+    /// 100,000,000 steps and the given number of interrupts.
     pub fn new(alloc: Global, devices: u8, irqs: u32) -> Result<PlainReplayer, NoMemory>
         requires { irqs ≤ 65536 }
         ensures { IfOk result (λ r. r ≡ record {

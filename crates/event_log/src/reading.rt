@@ -37,8 +37,8 @@ impl From<tx_types::NoMemory> for LogErr {
     }
 }
 
-/// The history whose text the bytes are, on a board with so many devices, with room for 65,536
-/// interrupts.
+/// The history whose text the bytes are, on a board with the given number of devices, with room for
+/// 65,536 interrupts.
 pub fn read_log(alloc: Global, bytes: &[u8], devices: u8) -> Result<History, LogErr>
     requires { devices ≤ 16 }
     ensures good { IfOk result (λ h. IsLogText devices h.entries bytes.now) }

@@ -3,7 +3,7 @@ use Rattle.std.specs.Prelude.{◌≡◌, ◌⊎◌, ℕ, ◌+◌, ◌/◌, ◌%�
 use Rattle.machine_words.specs.Number.{number_from, low_bytes}
 use Rattle.flat_ram.specs.Ram.{over, number_at, stored}
 
--- a place lies before the n places from a place on, or behind them
+-- a place lies before the n places from a place on, or after them
 abbrev pub IsOutside : ℕ → ℕ → ℕ → Type 0
 IsOutside at n k = (k < at) ⊎ (at + n ≤ k)
 

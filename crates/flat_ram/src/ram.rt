@@ -41,7 +41,7 @@ impl Model for Ram {
 }
 
 impl Ram {
-    /// So many bytes, all zero.
+    /// The given number of bytes, all zero.
     pub fn new(alloc: Global, size: u32) -> Result<Ram, NoMemory>
         ensures { IfOk result (λ r. r ≡ replicate size 0) }
     {

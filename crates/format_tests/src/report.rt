@@ -363,7 +363,7 @@ fn text_of(alloc: Global, r: &Report) -> Result<String, AllocError>
     Ok(text)
 }
 
-/// A report has so many lines, and this text.
+/// A report has the given number of lines, and this text.
 fn prints(rt: &impl Abort, alloc: Global, r: &Report, count: u32, text: &str) -> Result<(), Fail> {
     assert!(rt; is_printable(r));
     assert_eq!(rt; lines(r), count);
@@ -394,7 +394,7 @@ const KINDS: [Object<'static>; 7] = [
     ((255, 15), 8, LONGEST, [1, 0, 0xFFFF_FFFF], &[]),
 ];
 
-/// Their lines, and the first behind them.
+/// Their lines, and the first after them.
 const KIND_LINES: [(u32, &str); 8] = [
     (9, "object 1 module 0 kind 2 mail 2 14 4 waits\n"),
     (10, "object 2 module 0 kind 3 free 0 0 0 waits 7 8\n"),
@@ -432,7 +432,7 @@ fn a_line_for_each_kind_of_object(rt: HostRuntime) -> Result<(), Fail> {
     Ok(())
 }
 
-/// A front, a piece so many times, and a newline.
+/// A prefix, a piece the given number of times, and a newline.
 fn repeated(alloc: Global, front: &str, piece: &str, times: u32) -> Result<String, AllocError> {
     let mut text = String::from_str(alloc, front)?;
     for _ in 0..times {
@@ -463,7 +463,8 @@ fn longest(alloc: Global) -> Result<Report, AllocError> {
     Ok(r)
 }
 
-/// The longest lines: where each stands, its front, and the piece that it repeats so many times.
+/// The longest lines: where each stands, its prefix, and the piece that it repeats the given number
+/// of times.
 const LONGEST_LINES: [(u32, &str, &str, u32); 4] = [
     (3, "held", " 255", 256),
     (4, "ready", " 255", 256),
@@ -476,7 +477,7 @@ const LONGEST_LINES: [(u32, &str, &str, u32); 4] = [
     (11, "show 15", " 89abcdef", 64),
 ];
 
-/// A line of a report has this front, and a piece so many times.
+/// A line of a report has this prefix, and a piece the given number of times.
 fn repeats(
     rt: &impl Abort,
     alloc: Global,

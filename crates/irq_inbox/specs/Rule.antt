@@ -19,8 +19,8 @@ nobody = record {
   sent = [];
 }
 
--- the pass that takes has made so many devices, got these words, and knows what the first devices
--- sent in all
+-- the pass that takes has made the given number of devices, got these words, and knows what the
+-- first devices sent in all
 abbrev pub taker : ℕ → List (ℕ × ℕ) → List (List ℕ) → Know
 taker made got known = record nobody { takes = true; made = made; got = got; known = known }
 

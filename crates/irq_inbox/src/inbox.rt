@@ -47,8 +47,8 @@ impl Model for Inbox {
 }
 
 impl Inbox {
-    /// An empty inbox for so many devices, the pass that takes from it, and the passes of the
-    /// devices in the order of their numbers.
+    /// An empty inbox for the given number of devices, the pass that takes from it, and the passes
+    /// of the devices in the order of their numbers.
     pub fn new<R: Wait>(
         _rt: &R,
         alloc: Global,

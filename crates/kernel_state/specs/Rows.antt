@@ -1,4 +1,4 @@
--- What a report tells of an object that isn't a thread.
+-- What a report says of an object that isn't a thread.
 use Rattle.std.specs.Prelude.{ℕ, ◌&&◌, Bool, not, [], Option, None, Some, if◌then◌else◌}
 use Rattle.std.specs.Option.{option_map_or}
 use Rattle.board_values.specs.declared.report.ObjectRow.{ObjectRow}

@@ -1,4 +1,4 @@
-//! What a report tells of an object that isn't a thread.
+//! What a report says of an object that isn't a thread.
 ghost use Rattle.std.specs.Prelude.{◌≡◌, IfOk};
 ghost use Rattle.kernel_state.specs.Rows.{has_object, object_row, row_of_slot};
 

@@ -32,7 +32,7 @@ impl Model for Lane {
 }
 
 impl Lane {
-    /// An empty lane for so many entries, and its two passes.
+    /// An empty lane for the given number of entries, and its two passes.
     #[tactic(auto, using(crate::proofs::Steps::begins, crate::proofs::Steps::forks))]
     pub fn new<R: Wait>(
         _rt: &R,

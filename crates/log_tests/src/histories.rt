@@ -6,7 +6,7 @@ use std::alloc::Global;
 use std::process::Abort;
 use std::test::Fail;
 
-/// One step more, so many more, or an interrupt of a device with a word.
+/// One step more, the given number of more, or an interrupt of a device with a word.
 enum Move {
     Step,
     Steps(u32),

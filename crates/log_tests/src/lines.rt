@@ -15,7 +15,7 @@ pub fn after_lines<'a>(h: &History, text: &'a str) -> Option<&'a str> {
     Some(rest)
 }
 
-/// So many steps, or an interrupt of a device with a word; and the line.
+/// The given number of steps, or an interrupt of a device with a word; and the line.
 enum Row {
     Steps(u32, &'static str),
     Irq(u8, u32, &'static str),

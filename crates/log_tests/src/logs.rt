@@ -5,7 +5,7 @@ use std::alloc::{AllocError, Global};
 use std::process::Abort;
 use std::test::Fail;
 
-/// A piece so many times, and then an end.
+/// A piece the given number of times, and then an end.
 fn repeated(alloc: Global, piece: &str, times: u32, end: &str) -> Result<String, AllocError> {
     let mut text = String::new(alloc);
     for _ in 0..times {
@@ -24,7 +24,7 @@ fn entries_in(alloc: Global, text: &str, devices: u8) -> Result<u32, LogErr> {
     }
 }
 
-/// A log of three devices with so many entries, or with that first bad line.
+/// A log of three devices with the given number of entries, or with that first bad line.
 enum Row {
     Good(&'static str, u32),
     Bad(&'static str, u32),
@@ -107,7 +107,8 @@ fn a_log_comes_back_or_its_first_bad_line_is_named(rt: HostRuntime) {
     }
 }
 
-/// A log of 16 devices, a piece so many times and an end, with so many entries or that first bad line.
+/// A log of 16 devices, a piece the given number of times and an end, with the given number of
+/// entries or that first bad line.
 enum Long {
     Good(&'static str, u32, &'static str, u32),
     Bad(&'static str, u32, &'static str, u32),

@@ -6,7 +6,7 @@ use Rattle.std.specs.Int.{int_rem_euclid}
 abbrev pub bits : ℕ → ℕ → ℕ → ℕ
 bits w low count = w / 2 ^ low % 2 ^ count
 
--- a number of so many bits, read as two's complement: sign extension
+-- a number of the given number of bits, read as two's complement: sign extension
 abbrev pub signed : ℕ → ℕ → ℤ
 signed width n = if nat_lt n (2 ^ (width - 1)) then pos n else pos n -ℤ pos (2 ^ width)
 

@@ -7,7 +7,7 @@ use Rattle.module_loader.specs.Placement.{holds, left, piece, place_in, span}
 use Rattle.module_loader.specs.declared.placement.Range.{Range}
 use Rattle.module_loader.proofs.Cutting.{All-left, All-piece, held_fits, high, low, place_behind}
 
--- a later range lies behind an earlier one
+-- a later range lies after an earlier one
 abbrev pub IsBefore : Range → Range → Type 0
 IsBefore r later = r.base + r.size ≤ later.base
 

@@ -47,7 +47,7 @@ place_aligned r = omega arith
 pub held_fits : (size : ℕ) (r : Range) → holds size r ≡ true → place_in r + size ≤ r.base + r.size
 held_fits size r held = leb-true (place_in r + size) (r.base + r.size) held
 
--- the bytes of a range before its place, and those behind what is taken there
+-- the bytes of a range before its place, and those after what is taken there
 abbrev pub low : Range → Range
 low r = span r.base (place_in r)
 

@@ -10,7 +10,7 @@ ram_base = 0x80000000
 abbrev pub loaded : List ℕ → List ℕ → ℕ → List ℕ
 loaded ram image a = over ram (a - ram_base) image
 
--- so many addresses from an address on are in RAM
+-- the given number of addresses from an address on are in RAM
 pub record IsInRam (ram : List ℕ) (a n : ℕ) : Type 0 where
   pub from_base : ram_base ≤ a
   pub to_end : a + n ≤ ram_base + length ram

@@ -30,7 +30,7 @@ Has r a = (r.base ≤ a) × (a < r.base + r.size)
 abbrev pub IsFree : List Range → ℕ → Type 0
 IsFree free a = (r : Range) × Contains free r × Has r a
 
--- so many bytes were taken of free memory
+-- the given number of bytes were taken of free memory
 abbrev pub piece_of : Taken → ℕ → Range
 piece_of t size = record { base = t.base; size = size }
 

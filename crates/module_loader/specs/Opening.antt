@@ -6,7 +6,8 @@ use Rattle.rv_core.specs.Hart.{HartState}
 use Rattle.module_loader.specs.Want.{data_and_stack, callback_bytes, want_of}
 use Rattle.module_loader.specs.declared.placement.Placed.{Placed}
 
--- the start stack lies behind the data, and the callback stack behind it; each grows down from its top
+-- the start stack lies after the data, and the callback stack after it; each grows down from its
+-- top
 abbrev pub stack_top : Preamble → Placed → Bool → ℕ
 stack_top p at second = at.data_base + data_and_stack p + (if second then callback_bytes p else 0)
 

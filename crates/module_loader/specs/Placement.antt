@@ -11,7 +11,7 @@ use Rattle.module_loader.specs.declared.want.Want.{Want}
 abbrev pub place_in : Range → ℕ
 place_in r = rounded_up 32 r.base
 
--- so many bytes from that place on lie in the range
+-- the given number of bytes from that place on lie in the range
 abbrev pub holds : ℕ → Range → Bool
 holds size r = nat_le (place_in r + size) (r.base + r.size)
 
@@ -22,7 +22,8 @@ span from to = record { base = from; size = to - from }
 abbrev pub piece : ℕ → ℕ → List Range
 piece from to = if nat_lt from to then span from to ∷ [] else []
 
--- what stays free of a range without so many bytes at its place: the bytes before and those behind
+-- what stays free of a range without the given number of bytes at its place: the bytes before and
+-- those after
 abbrev pub left : ℕ → Range → List Range
 left size r = piece r.base (place_in r) ++ piece (place_in r + size) (r.base + r.size)
 
@@ -36,7 +37,7 @@ abbrev pub in_front : Range → Option Taken → Option Taken
 in_front r None = None
 in_front r (Some t) = Some (record t { free = r ∷ t.free })
 
--- the first free range that holds so many bytes gives them
+-- the first free range that holds the given number of bytes gives them
 abbrev pub taken : ℕ → List Range → Option Taken
 taken size [] = None
 taken size (r ∷ free) =
@@ -62,7 +63,7 @@ with_code w (Some code_taken) = with_data code_taken.base (taken w.data_bytes co
 abbrev pub placed_one : List Range → Want → Option PlacedOne
 placed_one free w = with_code w (taken w.code free)
 
--- the places of the later modules come behind one; the number of one that finds none is counted on
+-- the places of the later modules come after one; the number of one that finds none is counted on
 abbrev pub before_others : Placed → Result (List Placed) ℕ → Result (List Placed) ℕ
 before_others p (Ok others) = Ok (p ∷ others)
 before_others p (Err i) = Err (i + 1)

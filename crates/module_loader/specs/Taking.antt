@@ -4,7 +4,7 @@ use Rattle.module_loader.specs.Placement.{Taken, PlacedOne}
 use Rattle.module_loader.specs.declared.placement.Placed.{Placed}
 use Rattle.module_loader.specs.declared.placement.Range.{Range}
 
--- all addresses are words, and so are those right behind the ranges
+-- all addresses are words, and so are those right after the ranges
 abbrev pub IsAddressable : List Range → Type 0
 IsAddressable free = All (λ r. r.base + r.size < 2 ^ 32) free
 

@@ -54,7 +54,7 @@ impl Range {
         rounded_up(u64::from(self.base), ALIGNMENT)
     }
 
-    /// Whether so many bytes from that place on lie in the range.
+    /// Whether the given number of bytes from that place on lie in the range.
     fn holds(&self, size: u32) -> bool
         ensures { result ≡ holds size self.now }
     {
@@ -75,14 +75,15 @@ fn put_piece(free: &mut Vec<Range>, at: usize, from: u32, to: u32) -> Result<(),
     Ok(())
 }
 
-/// The number of the first free range that holds so many bytes.
+/// The number of the first free range that holds the given number of bytes.
 fn first_to_hold(free: &[Range], size: u32) -> Option<usize>
     ensures { result ≡ position (holds size) free.now }
 {
     free.iter().position(|r| r.holds(size))
 }
 
-/// Takes so many bytes from the first free range that holds them, and says where they begin.
+/// Takes the given number of bytes from the first free range that holds them, and says where they
+/// begin.
 fn take(free: &mut Vec<Range>, size: u32) -> Result<Option<u32>, AllocError>
     requires { IsAddressable free.old.items }
     ensures taken { IfOk result (λ base. IsTaken (taken size free.old.items) base free.new.items) }
@@ -118,7 +119,7 @@ fn take_both(free: &mut Vec<Range>, want: &Want) -> Result<Option<Placed>, Alloc
 
 /// Places modules in free ranges, which stand in the order of their addresses. One after another
 /// takes memory for its code and then for its data, each from the first free range that holds it from
-/// the range's base rounded up to 32; the bytes before and behind it stay free.
+/// the range's base rounded up to 32; the bytes before and after it stay free.
 pub fn place(alloc: Global, free: &[Range], wants: &[Want]) -> Result<Vec<Placed>, PlaceErr>
     requires addressable { IsAddressable free.now }
     requires count { length wants.now ≤ 256 }

@@ -20,7 +20,7 @@ unfoldable pub judged : {X : Type 0} → List Rule → X → Result X PreErr
 judged [] x = Ok x
 judged (r ∷ rules) x = if r.holds then judged rules x else Err r.refusal
 
--- an entry is the offset of an instruction behind the preamble
+-- an entry is the offset of an instruction after the preamble
 abbrev pub is_entry : Preamble → ℕ → Bool
 is_entry p w = (w % 4 == 0) && nat_le 128 w && nat_lt w p.code_size
 
@@ -85,7 +85,7 @@ rules bytes =
 unfoldable pub preamble : List ℕ → Result Preamble PreErr
 preamble bytes = judged (rules bytes) (words_of bytes)
 
--- a word is the offset of an instruction behind the preamble
+-- a word is the offset of an instruction after the preamble
 pub record IsEntry (p : Preamble) (w : ℕ) : Type 0 where
   pub aligned : w % 4 ≡ 0
   pub behind : 128 ≤ w

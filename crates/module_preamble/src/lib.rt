@@ -1,7 +1,7 @@
 //! The preamble at the head of a module image: its sixteen words, or the first rule that it breaks.
 //!
 //! The layout is that of the ThreadX Modules User Guide, "Module Preamble"; the bounds on sizes are
-//! this board's. Nothing here looks at the code behind the preamble, and nothing allocates.
+//! this board's. Nothing here looks at the code after the preamble, and nothing allocates.
 #![tactic(auto)]
 
 ghost use Rattle.std.specs.Prelude.{◌≡◌, IfOk};

@@ -7,7 +7,7 @@ ghost use Rattle.module_preamble.specs.Refusal.{name_of, number_of, word_of};
 /// words, the first number says which of them it is.
 #[derive(Clone, Copy, Debug, PartialEq, Eq)]
 pub enum PreErr {
-    /// The image has so many bytes, which are fewer than a preamble has.
+    /// The image has the given number of bytes, which are fewer than a preamble has.
     Short(u32),
     /// The id is another.
     BadId(u32),

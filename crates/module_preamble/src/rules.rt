@@ -68,7 +68,8 @@ pub fn check_identity(p: &Preamble) -> Result<(), PreErr>
     )
 }
 
-/// Whether the code is the whole image, of so many bytes, and the data has a size that it may have.
+/// Whether the code is the whole image, of the given number of bytes, and the data has a size that
+/// it may have.
 #[tactic(auto, unfolding(crate::specs::Preamble::judged, crate::specs::Preamble::size_rules))]
 pub fn check_sizes(p: &Preamble, len: usize) -> Result<(), PreErr>
     ensures { result ≡ judged (size_rules len p.now) tt }
@@ -126,7 +127,7 @@ fn is_set(word: u32, bit: u32) -> bool
     word >> bit & 1 == 1
 }
 
-/// Whether a word is the offset of an instruction behind the preamble.
+/// Whether a word is the offset of an instruction after the preamble.
 fn is_entry(p: &Preamble, word: u32) -> bool
     ensures { result ≡ is_entry p.now word }
 {

@@ -13,7 +13,7 @@ use byteorder::{ByteOrder, LittleEndian};
 /// offsets in bytes from the image's start, and sizes are in bytes where nothing else is said.
 #[derive(Clone, Copy, Debug, PartialEq, Eq)]
 pub struct Preamble {
-    /// What tells a module from any other file.
+    /// What marks a module among other files.
     pub id: u32,
     /// The version of the preamble.
     pub major: u32,

@@ -212,7 +212,7 @@ distinct-first_in by t xs distinct new =
 
 -- who is first of a priority once one is put in
 
--- the first of a priority stays so behind others of it
+-- the first of a priority stays so after others of it
 pub find-last_in : (by : ℕ → ℕ) (t p k : ℕ) (xs : List ℕ) → find (λ u. by u == p) xs ≡ Some k → find (λ u. by u == p) (last_in by t xs) ≡ Some k
 find-last_in by t p k xs found =
     let low_part = filter (λ u. nat_le (by u) (by t)) xs in

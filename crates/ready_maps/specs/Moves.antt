@@ -61,7 +61,7 @@ abbrev pub with_numbers : Sched → ℕ → ℕ → ℕ → Sched
 with_numbers s t priority threshold =
     record s { priority = slice_set s.priority t priority; threshold = slice_set s.threshold t threshold }
 
--- the thread that ran goes first and is preempted, but behind a holder of its priority it goes last
+-- the thread that ran goes first and is preempted, but after a holder of its priority it goes last
 abbrev pub placed_again : Sched → ℕ → Sched
 placed_again s t =
     if list_any (λ k. pr s k == pr s t) s.held then placed_last s t else holding (placed_first s t) t

@@ -38,7 +38,7 @@ has t ts = list_any (λ u. u == t) ts
 abbrev pub without : ℕ → List ℕ → List ℕ
 without t ts = filter (λ u. not (u == t)) ts
 
--- a thread is put in behind the threads of its priority, or before them
+-- a thread is put in after the threads of its priority, or before them
 abbrev pub last_in : (ℕ → ℕ) → ℕ → List ℕ → List ℕ
 last_in by t ts = filter (λ u. nat_le (by u) (by t)) ts ++ t ∷ filter (λ u. nat_lt (by t) (by u)) ts
 
@@ -54,7 +54,7 @@ is_held s t = has t s.held
 abbrev pub runs : Sched → ℕ → Bool
 runs s t = option_map_or (λ r. r == t) s.run false
 
--- the first ready thread of a priority, and the next of the same priority behind a ready thread
+-- the first ready thread of a priority, and the next of the same priority after a ready thread
 abbrev pub first_at : Sched → ℕ → Option ℕ
 first_at s p = find (λ u. pr s u == p) s.order
 

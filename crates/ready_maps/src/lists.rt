@@ -111,7 +111,7 @@ fn first_place(threads: &[ThreadNo], by: &[Prio], priority: Prio) -> usize
     place_from(threads, by, priority).unwrap_or(end)
 }
 
-/// Puts a thread in behind those of its priority.
+/// Puts a thread in after those of its priority.
 pub(crate) fn put_last(threads: &mut Vec<ThreadNo>, by: &[Prio], t: ThreadNo)
     requires table { length by.now ≡ 256 }
     requires sorted { AllPairs (λ u v. slice_index by.now u ≤ slice_index by.now v) threads.old.items }
@@ -135,7 +135,7 @@ pub(crate) fn put_first(threads: &mut Vec<ThreadNo>, by: &[Prio], t: ThreadNo)
     put(threads, at, t);
 }
 
-/// The first thread of a priority behind this thread.
+/// The first thread of a priority after this thread.
 pub(crate) fn first_behind(
     threads: &[ThreadNo],
     by: &[Prio],
@@ -178,7 +178,7 @@ pub(crate) fn take_first(threads: &mut Vec<ThreadNo>)
     threads.remove(0);
 }
 
-/// Puts threads in one after another, each behind those of its priority.
+/// Puts threads in one after another, each after those of its priority.
 pub(crate) fn put_all(threads: &mut Vec<ThreadNo>, by: &[Prio], more: &[ThreadNo])
     requires table { length by.now ≡ 256 }
     requires sorted { AllPairs (λ u v. slice_index by.now u ≤ slice_index by.now v) threads.old.items }

@@ -45,7 +45,7 @@ impl Ready {
         })
     }
 
-    /// Thread t becomes ready, behind the ready threads of its priority. It runs where nothing does,
+    /// Thread t becomes ready, after the ready threads of its priority. It runs where nothing does,
     /// or where its priority is below the running thread's threshold.
     pub fn ready(&mut self, t: ThreadNo)
         requires { is_ready self.old t ≡ false }
@@ -69,7 +69,7 @@ impl Ready {
         }
     }
 
-    /// The running thread goes behind the ready threads of its priority (ThreadX User Guide,
+    /// The running thread goes after the ready threads of its priority (ThreadX User Guide,
     /// `tx_thread_relinquish`).
     pub fn yield_run(&mut self)
         requires { IsSome self.old.run }
@@ -160,7 +160,7 @@ impl Ready {
         self.state.first_at(priority)
     }
 
-    /// The next ready thread of the same priority behind thread t.
+    /// The next ready thread of the same priority after thread t.
     pub fn after(&self, t: ThreadNo) -> Option<ThreadNo>
         ensures { result ≡ after self.now t }
     {

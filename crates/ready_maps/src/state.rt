@@ -121,7 +121,7 @@ impl State {
         lists::first_at(&self.order, &self.priority, priority)
     }
 
-    /// The next ready thread of the same priority behind thread t.
+    /// The next ready thread of the same priority after thread t.
     pub(crate) fn after(&self, t: ThreadNo) -> Option<ThreadNo>
         ensures { result ≡ after self.now t }
     {
@@ -352,7 +352,7 @@ impl State {
         lists::has_priority(&self.held, &self.priority, self.priority(t))
     }
 
-    /// Thread t goes first and is held, but behind a holder of its priority it goes last.
+    /// Thread t goes first and is held, but after a holder of its priority it goes last.
     pub(crate) fn place_again(&mut self, t: ThreadNo)
         requires laid_out { IsLaidOut self.old }
         requires unready { All (λ u. u ≢ t) self.old.order }

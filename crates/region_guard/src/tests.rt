@@ -23,7 +23,7 @@ const DATA: Region = Region {
     who: 1,
 };
 
-/// A region of modules 0 and 3 that only they can read, right behind the data.
+/// A region of modules 0 and 3 that only they can read, right after the data.
 const SHARE: Region = Region {
     base: 0x8000_01E0,
     size: 0x20,

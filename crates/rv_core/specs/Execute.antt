@@ -29,7 +29,7 @@ writes h rd value = Completes (advanced (with_register h rd value))
 unfoldable pub goes_to : HartState → ℕ → Effect
 goes_to h target = if target % 4 == 0 then Completes (record h { pc = target }) else Faults FetchMisaligned
 
--- a jump writes the address of the instruction behind it
+-- a jump writes the address of the instruction after it
 unfoldable pub jumps : HartState → ℕ → ℕ → Effect
 jumps h rd target =
     if target % 4 == 0 then Completes (record (with_register h rd ((h.pc + 4) % 2 ^ 32)) { pc = target }) else Faults FetchMisaligned

@@ -6,7 +6,7 @@ use Rattle.machine_words.specs.Bits.{bits}
 use Rattle.rv_decode.specs.declared.Instr.{Instr}
 use Rattle.rv_decode.specs.declared.Instr.TheVariants.{Lui, Auipc, Jal, Jalr, Beq, Bne, Blt, Bge, Bltu, Bgeu, Lb, Lh, Lw, Lbu, Lhu, Sb, Sh, Sw, Addi, Slti, Sltiu, Xori, Ori, Andi, Slli, Srli, Srai, Add, Sub, Sll, Slt, Sltu, Xor, Srl, Sra, Or, And, Fence, Ecall, Ebreak, Mul, Mulh, Mulhsu, Mulhu, Div, Divu, Rem, Remu}
 
--- a signed number in a field of so many bits: the number modulo 2^width
+-- a signed number in a field of the given number of bits: the number modulo 2^width
 abbrev pub field : ℕ → ℤ → ℕ
 field width z = unsigned_abs (int_rem_euclid z (pos (2 ^ width)))
 

@@ -13,7 +13,7 @@ IsRegister r = r < 32
 abbrev pub IsAmount : ℕ → Type 0
 IsAmount n = n < 32
 
--- a signed number of so many bits that the step divides
+-- a signed number of the given number of bits that the step divides
 pub record IsImmediate (width step : ℕ) (z : ℤ) : Type 0 where
   pub low : neg_ℤ (pos (2 ^ (width - 1))) ≤ℤ z
   pub high : z <ℤ pos (2 ^ (width - 1))

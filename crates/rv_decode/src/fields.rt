@@ -44,7 +44,7 @@ pub fn funct3(w: u32) -> u32
     w >> 12 & 7
 }
 
-/// Bits 31 to 25: the rest of what tells instructions apart.
+/// Bits 31 to 25: the rest of what distinguishes instructions.
 #[inline]
 pub fn funct7(w: u32) -> u32
     ensures { result ≡ funct7 w }
@@ -94,7 +94,7 @@ pub fn j_immediate(w: u32) -> i32
     sign_extend(n, 21)
 }
 
-// A number of so many bits, read as two's complement.
+// A number of the given number of bits, read as two's complement.
 #[inline]
 fn sign_extend(n: u32, width: u32) -> i32
     requires positive { 0 < width }

@@ -1,4 +1,4 @@
-//! A thread's numbers are told and changed.
+//! A thread's numbers are read and changed.
 
 use crate::names::{
     INVALID_MEMORY, OBJECT_ALLOCATE, PRIORITY_ERROR, PTR_ERROR, SUCCESS, THREAD_CREATE,

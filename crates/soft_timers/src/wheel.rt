@@ -80,7 +80,7 @@ impl Wheel {
         }
     }
 
-    /// Arms it: it is due in so many ticks.
+    /// Arms it: it is due in the given number of ticks.
     pub fn arm(&mut self, id: TimerId, ticks: u32)
         requires free { armed self.old id ≡ None }
         requires later { 0 < ticks }

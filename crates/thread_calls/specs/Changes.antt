@@ -66,7 +66,7 @@ with_slice k t new = with_thread k t (record (thread k t) { slice = new; left = 
 abbrev pub flag : Bool → ℕ
 flag b = if b then 1 else 0
 
--- what is told of a thread
+-- what is read of a thread
 abbrev pub thread_info : Kernel → ℕ → List ℕ
 thread_info k t =
     state_number (thread k t).state ∷ flag (thread k t).held ∷ (thread k t).priority ∷ (thread k t).threshold

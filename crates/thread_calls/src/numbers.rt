@@ -1,4 +1,4 @@
-//! The services that tell and change a thread's numbers (ThreadX User Guide, "Thread Services").
+//! The services that read and change a thread's numbers (ThreadX User Guide, "Thread Services").
 ghost use Rattle.std.specs.Prelude.{◌≡◌, ◌≤◌, ◌<◌, Some, true};
 ghost use Rattle.region_guard.specs.Memory.{may};
 ghost use Rattle.kernel_state.specs.Kernel.{thread, is_thread, module_of};
@@ -175,7 +175,7 @@ fn change_slice(
     Answer::Code(Code::SUCCESS)
 }
 
-/// What is told of a thread.
+/// What is read of a thread.
 fn thread_info(k: &Kernel, t: ThreadNo) -> [u32; 8]
     requires sound { IsSound k.now }
     requires live { is_thread k.now t ≡ true }

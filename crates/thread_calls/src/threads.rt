@@ -128,7 +128,7 @@ pub fn thread_delete(k: &mut Kernel, g: &mut Guard, by: ThreadNo, a: &Args) -> A
     Answer::Code(Code::SUCCESS)
 }
 
-/// `thread_relinquish()`: the caller goes behind the ready threads of its priority.
+/// `thread_relinquish()`: the caller goes after the ready threads of its priority.
 #[tactic(auto, unfolding(crate::specs::ThreadRows::thread_relinquish_row))]
 pub fn thread_relinquish(k: &mut Kernel, g: &mut Guard, by: ThreadNo, a: &Args) -> Answer
     requires sound { IsSound k.old }

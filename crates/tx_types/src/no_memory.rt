@@ -1,4 +1,4 @@
-//! Want of memory, where a call has no other error.
+//! Out of memory, where a call has no other error.
 use std::alloc::AllocError;
 
 /// There is no memory for a value.

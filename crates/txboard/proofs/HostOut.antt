@@ -1,4 +1,4 @@
--- A piece is written front by front.
+-- A piece is written prefix by prefix.
 use Rattle.std.proofs.Common.{◌≡◌, ℕ, ◌-◌, List, [], ◌++◌, length, take, drop, Option, sym, ap, ◌∙◌, subst, append_assoc, append-nil, take-append-drop, Result, Ok, Err, IsErr, arith, length-append}
 use Rattle.std.proofs.lemmas.Bool.{false≢true}
 use Rattle.std.proofs.lemmas.List.{take_rest}
@@ -8,7 +8,7 @@ use Rattle.std.specs.Io.KnownBytes.{Appends, Keeps}
 use Rattle.board_io.specs.Sink.{AppendsFront}
 use Rattle.txboard.specs.HostOut.{AppendsPiece}
 
--- some front of the piece was appended, and this rest of it was not
+-- some prefix of the piece was appended, and this rest of it was not
 pub record IsUnderWay (old new : Option (List ℕ)) (piece rest : List ℕ) : Type 0 where
   pub done : List ℕ
   pub split : piece ≡ done ++ rest
@@ -18,12 +18,12 @@ split_more : (piece done rest : List ℕ) (n : ℕ) → piece ≡ done ++ rest �
 split_more piece done rest n e =
     e ∙ ap (λ l. done ++ l) (sym (take-append-drop n rest)) ∙ sym (append_assoc done (take n rest) (drop n rest)) ∙ ap (λ l. (done ++ take n rest) ++ l) (sym (take_rest rest n))
 
--- one more front of the rest
+-- one more prefix of the rest
 pub under_way_more : (old mid new : Option (List ℕ)) (piece rest : List ℕ) (n : ℕ) → IsUnderWay old mid piece rest → Appends mid new (take n rest) → IsUnderWay old new piece (take (length rest - n) (drop n rest))
 under_way_more old mid new piece rest n h more =
     record { done = h.done ++ take n rest; split = split_more piece h.done rest n h.split; appended = Appends-trans old mid new h.done (take n rest) h.appended more }
 
--- the front that was appended
+-- the prefix that was appended
 under_way_front : (old new : Option (List ℕ)) (piece rest : List ℕ) → IsUnderWay old new piece rest → AppendsFront old new piece
 under_way_front old new piece rest h =
     (length h.done, subst (Appends old new) (sym (ap (take (length h.done)) h.split ∙ take-append_seam h.done rest)) h.appended)

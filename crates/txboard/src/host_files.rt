@@ -1,6 +1,6 @@
 //! The host's files, read whole and never written.
 //!
-//! What the host holds is not told; where a reader tells the bytes that it has left, the prefix that is
+//! What the host holds is not known; where it is known what a reader has left, the prefix that is
 //! read is theirs. A file that wasn't read is told on the host's standard error as it is read.
 ghost use Rattle.std.specs.Prelude.{◌≡◌, ◌≢◌, ◌+◌, ◌^◌, ◌<◌, ◌≤◌, None, take, vec_len, IfOk, IfErr, IfSome};
 ghost use Rattle.std.specs.Io.KnownBytes.{Consumes};
@@ -53,7 +53,7 @@ impl<R: std::rt::Files + Eprint> Files for HostFiles<'_, R> {
     }
 }
 
-/// The first bytes of the file `name`, at most so many.
+/// The first bytes of the file `name`, at most the given number.
 fn read_named<R: std::rt::Files>(
     rt: &R,
     alloc: Global,
@@ -99,7 +99,8 @@ const NO_MEMORY: Failure = Failure {
     error: None,
 };
 
-/// The first bytes of a reader, at most so many. Each turn takes a byte at least, or is the last.
+/// The first bytes of a reader, at most the given number. Each turn takes a byte at least, or is
+/// the last.
 fn read_front<F: Read>(alloc: Global, reader: &mut F, most: usize) -> Result<Vec<u8>, Failure>
     requires { most < 2 ^ 32 }
     ensures bound { IfOk result (λ v. vec_len v ≤ most) }

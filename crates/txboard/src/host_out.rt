@@ -1,6 +1,6 @@
 //! The host's standard output, written piece by piece.
 //!
-//! What the host takes is not told; where a writer tells the bytes that it holds, the pieces are appended
+//! What the host takes is not known; where a writer has a known content, the pieces are appended
 //! to them.
 ghost use Rattle.std.specs.Prelude.{◌≡◌, ◌<◌, ◌≤◌, [], length, None, IsOk, IfOk};
 ghost use Rattle.std.specs.Io.KnownBytes.{WriteAppends};
@@ -44,7 +44,7 @@ impl<W: Write + Drop> Sink for HostOut<W> {
     }
 }
 
-/// Writes a piece whole, or a front of it where a write fails.
+/// Writes a piece whole, or a prefix of it where a write fails.
 #[tactic(auto, using(crate::proofs::HostOut::pieces))]
 fn write_whole<W: Write>(out: &mut W, piece: &[u8]) -> Result<(), WriteErr>
     ensures wrote { AppendsPiece (W.contents out.old) (W.contents out.new) piece.now result }

@@ -1,8 +1,8 @@
 //! `txboard`: the command line of the board.
 //!
-//! Here stand the adapters to the host's files and standard output. They tell nothing of what the host
-//! holds, so what is proved of them is that they are safe, that exactly each fault is counted, and that
-//! they pass on the bytes of a reader or a writer that tells its bytes.
+//! Here stand the adapters to the host's files and standard output. They say nothing of what the
+//! host holds, so what is proved of them is that they are safe, that exactly each fault is counted,
+//! and that they pass on the bytes of a reader or a writer whose bytes are known.
 #![tactic(auto)]
 
 mod call;

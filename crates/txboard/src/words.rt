@@ -1,4 +1,4 @@
-//! The words of the command line, as the host tells them.
+//! The words of the command line, as the host gives them.
 ghost use Rattle.std.specs.Prelude.{◌≡◌, IfErr};
 
 use board_run::Status;

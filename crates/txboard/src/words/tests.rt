@@ -4,7 +4,7 @@ use std::env::FillError;
 use std::rt::Env;
 use std::test::Fail;
 
-/// A host with so many arguments, joined by bars, and no variables.
+/// A host with the given number of arguments, joined by bars, and no variables.
 #[derive(Drop)]
 struct Args<'a> {
     joined: &'a [u8],

@@ -11,7 +11,7 @@ higher value at k above =
     let next : k - at ≡ suc m = omega arith in
     rw (next, pow-succ') (ap (λ (q : ℕ). q % 256) (div-div-eq-div-mul value 256 (256 ^ m)))
 
--- the lowest byte was put, and the rest is put behind it
+-- the lowest byte was put, and the rest is put after it
 lowest_then_rest : (bytes : List ℕ) (at n value k : ℕ) → 0 < n → at + n ≤ length bytes → after_store (slice_index (slice_set bytes at (value % 256))) (at + 1) (n - 1) (value / 256) k ≡ after_store (slice_index bytes) at n value k
 lowest_then_rest bytes at n value k some inside = grind (arith, nat_tests, get_or-set_same, get_or-set_other, higher)
 

@@ -3,7 +3,7 @@ use Rattle.std.specs.List.{fold}
 use Rattle.event_log.specs.Events.{Step}
 use Rattle.event_log.proofs.replayer.Replayer.steps.Given as goal
 
--- so many steps were made
+-- the given number of steps were made
 abbrev pub invariant-loop : goal.invariant-loop
 invariant-loop g l = record {
   world : g.Self.Replayer.world l.self ≡ fold g.Self.Replayer.next (g.Self.Replayer.world l.fn.self) (replicate l.counter Step);
