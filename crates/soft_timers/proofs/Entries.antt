@@ -28,9 +28,9 @@ distinct_numbers : (es : List Armed) → AllPairs (λ d e. d.id ≢ e.id) es →
 distinct_numbers es apart =
     let mapped = length-map es (λ (e : Armed). e.id) in
     IsDistinct-from_apart nat_eq (map (λ e. e.id) es) (λ i j d before inside.
-      let first = get_or-map (λ (e : Armed). e.id) es i no_entry d (omega arith) in
-      let second = get_or-map (λ (e : Armed). e.id) es j no_entry d (omega arith) in
-      ne_eqb _ _ (λ same. apart i j no_entry before (omega arith) (sym first ∙ (same ∙ second))))
+    let first = get_or-map (λ (e : Armed). e.id) es i no_entry d (omega arith) in
+    let second = get_or-map (λ (e : Armed). e.id) es j no_entry d (omega arith) in
+    ne_eqb _ _ (λ same. apart i j no_entry before (omega arith) (sym first ∙ (same ∙ second))))
 
 below_all : (es : List Armed) (q : ℕ) → All (λ e. e.id < 512) es → list_any (λ n. q == n) (map (λ e. e.id) es) ≡ true → q < 512
 below_all [] q low there = let never : false ≡ true = there in absurd (cc)

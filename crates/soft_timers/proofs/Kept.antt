@@ -1,10 +1,12 @@
 -- What holds of every wheel is kept by each call.
-use Rattle.std.proofs.Common.{◌≡◌, ◌≢◌, ℕ, ◌+◌, ◌<◌, ◌≤◌, ◌==◌, ◌^◌, not, length, None, arith}
-use Rattle.std.proofs.lemmas.Bool.{eqb-false}
+use Rattle.std.proofs.Common.{◌≡◌, ◌↔◌, nat_lt, true, ◌≢◌, ℕ, ◌+◌, ◌<◌, ◌≤◌, ◌==◌, ◌^◌, not, length, None, arith}
+use Rattle.std.proofs.lemmas.Bool.{eqb-false, lt-ltb, ltb-true}
 use Rattle.std.proofs.lemmas.List.{length_push}
 use Rattle.std.proofs.lemmas.List.Elements.{All-nil, All-push, All-weaker, All-filter}
 use Rattle.std.proofs.lemmas.List.Kept.{AllPairs-filter}
 use Rattle.std.proofs.lemmas.List.Quantifiers.{all_pairs_push}
+use Rattle.std.proofs.lemmas.List.Sums.{AllPass-from_list_all, list_all-from_AllPass}
+use Rattle.std.specs.List.{list_all}
 use Rattle.soft_timers.specs.Timers.{TimerTable, IsWheel, IsRunning, no_timers, armed, armed_for, disarmed, ticked}
 use Rattle.soft_timers.specs.declared.due.Armed.{Armed}
 use Rattle.soft_timers.proofs.Entries.{none_passes, few}
@@ -67,3 +69,9 @@ room w id wheel free low =
     let more = few_armed (armed_for w id 1) (armed_keeps w id 1 wheel free low (omega arith)) in
     let one = length_push w.entries (record { id = id; expiry = w.ticks + 1; arming = w.armings }) in
     omega arith
+
+-- the test of whether a tick may come
+pub runs_by_test : (w : TimerTable) → (list_all (λ e. nat_lt w.ticks e.expiry) w.entries ≡ true) ↔ IsRunning w
+runs_by_test w =
+    let later = λ (e : Armed). nat_lt w.ticks e.expiry in
+    (λ yes k d inside. ltb-true _ _ (AllPass-from_list_all later w.entries yes k d inside), λ running. list_all-from_AllPass later w.entries (λ k d inside. lt-ltb _ _ (running k d inside)))

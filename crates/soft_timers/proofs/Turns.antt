@@ -83,9 +83,9 @@ over_armed w d id n before over =
     let later : (w.armings == d.arming) ≡ false = ne_eqb w.armings d.arming (λ same. absurd (omega arith)) in
     let at_new : still_by (find (λ e. e.id == d.id) (new ∷ [])) d.arming ≡ false = cond_both (id == d.id) (Some new) None (λ o. still_by o d.arming ≡ false) (λ _. later) (λ _. refl) in
     ap (λ (o : Option Armed). still_by o d.arming) joined ∙ either (armed w d.id) (find (λ e. e.id == d.id) (new ∷ [])) over at_new where
-  either : (o r : Option Armed) → still_by o d.arming ≡ false → still_by r d.arming ≡ false → still_by (option_or o r) d.arming ≡ false
-  either None r left right = right
-  either (Some e) r left right = left
+      either : (o r : Option Armed) → still_by o d.arming ≡ false → still_by r d.arming ≡ false → still_by (option_or o r) d.arming ≡ false
+      either None r left right = right
+      either (Some e) r left right = left
 
 pub over_stays_over : OverStaysOver
 over_stays_over w d (Arm id n) before over = over_armed w d id n before over
@@ -121,9 +121,9 @@ turns_take_one w d ds wheel over running k x inside =
     let found = found_at w.entries wheel.each_once k x inside in
     ⊎_elim (λ later. or_left (nat_lt w.ticks e.expiry) (is_among ds e) later)
     (λ among. or_right (nat_lt w.ticks e.expiry) (is_among ds e) (⊎_elim
-      (λ is_d. let parts = and_parts (d.id == e.id) (d.arming == e.arming) is_d in absurd (both_ways (still w d) over (still_here w d e found (eqb-true d.id e.id parts.0) (eqb-true d.arming e.arming parts.1))))
-      (λ other. other)
-      (or_cases ((d.id == e.id) && (d.arming == e.arming)) (is_among ds e) among)))
+    (λ is_d. let parts = and_parts (d.id == e.id) (d.arming == e.arming) is_d in absurd (both_ways (still w d) over (still_here w d e found (eqb-true d.id e.id parts.0) (eqb-true d.arming e.arming parts.1))))
+    (λ other. other)
+    (or_cases ((d.id == e.id) && (d.arming == e.arming)) (is_among ds e) among)))
     (or_cases (nat_lt w.ticks e.expiry) (is_among (d ∷ ds) e) (running k x inside))
 
 pub none_is_running : NoneIsRunning

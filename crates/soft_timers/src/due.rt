@@ -52,7 +52,7 @@ impl Due {
     }
 
     /// The one at a place in order of arming.
-    pub fn entry(&self, i: u16) -> Armed
+    pub(crate) fn entry(&self, i: u16) -> Armed
         requires { i < length self.now }
         ensures { HoldsAt (λ e. result ≡ e) self.now i }
     {

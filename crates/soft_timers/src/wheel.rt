@@ -2,7 +2,8 @@
 //!
 //! A tick lists what is due and leaves it armed: each has its turn only where it is still armed by
 //! the same arming, since the turn of another may disarm it or arm it again.
-ghost use Rattle.std.specs.Prelude.{◌≡◌, ◌<◌, ◌≤◌, ◌==◌, ◌+◌, ◌-◌, ◌^◌, ◌∷◌, ◌++◌, [], All, length, filter, find, not, HoldsAt, None, IfOk, vec_len, vec_capacity};
+ghost use Rattle.std.specs.Prelude.{◌≡◌, ◌↔◌, true, nat_lt, ◌<◌, ◌≤◌, ◌==◌, ◌+◌, ◌-◌, ◌^◌, ◌∷◌, ◌++◌, [], All, length, filter, find, not, HoldsAt, None, IfOk, vec_len, vec_capacity};
+ghost use Rattle.std.specs.List.{list_all};
 ghost use Rattle.soft_timers.specs.Timers.{TimerTable, IsWheel, IsRunning, no_timers, armed, left, arming, armed_for, disarmed, ticked, due_now, still, without};
 
 use crate::TIMERS;
@@ -53,6 +54,20 @@ impl Wheel {
         self.ticks
     }
 
+    /// How often one was armed.
+    pub fn armings(&self) -> u64
+        ensures { result ≡ self.now.armings }
+    {
+        self.armings
+    }
+
+    /// Whether each that is armed has at least one tick left, so that a tick may come.
+    pub fn is_running(&self) -> bool
+        ensures { (result ≡ true) ↔ IsRunning self.now }
+    {
+        all_later(&self.entries, self.ticks)
+    }
+
     /// The number of the arming by which it is armed, where it is.
     pub fn arming(&self, id: TimerId) -> Option<u64>
         ensures { result ≡ arming self.now id }
@@ -65,7 +80,8 @@ impl Wheel {
         ensures { result ≡ left self.now id }
     {
         let e = find_armed(&self.entries, id)?;
-        Some((e.expiry - self.ticks) as u32)
+        let ticks = (e.expiry - self.ticks) as u32;
+        Some(ticks)
     }
 
     /// Whether one that was due is still armed by the same arming.
@@ -120,6 +136,13 @@ fn find_armed(entries: &[Armed], id: TimerId) -> Option<Armed>
     ensures { result ≡ find (λ e. e.id == id) entries.now }
 {
     entries.iter().copied().find(|e| e.id == id)
+}
+
+/// Whether each is due after a tick.
+fn all_later(entries: &[Armed], now: u64) -> bool
+    ensures { result ≡ list_all (λ e. nat_lt now e.expiry) entries.now }
+{
+    entries.iter().all(|e| now < e.expiry)
 }
 
 /// Takes the one of a number out.

@@ -101,9 +101,9 @@ waits_within w (Some p) u table there =
     let at = sym (table.at_its_place p u) ∙ there in
     let inside = some_within w.waits u (is_some_at (pending w u) p at) in
     subst (λ (n : ℕ). u < n) table.threads inside where
-  is_some_at : (o : Option Pending) (p : ℕ) → is_at (place_in o) p ≡ true → IsSome o
-  is_some_at None p at = absurd (cc)
-  is_some_at (Some x) p at = refl
+      is_some_at : (o : Option Pending) (p : ℕ) → is_at (place_in o) p ≡ true → IsSome o
+      is_some_at None p at = absurd (cc)
+      is_some_at (Some x) p at = refl
 
 -- so there is room for one more
 pub room_at : (w : WaitTable) (t : ℕ) (o : Option ℕ) → IsTable w → t < 256 → pending w t ≡ None → length (waiters_in w.lists o) < 256
@@ -158,27 +158,27 @@ restored_keeps w t x n table low none at below unused fits =
       threads = length-set w.waits t new ∙ table.threads;
       each_once = distinct-with w.lists o (ts ++ t ∷ []) there table.each_once (distinct-push t ts (distinct_at w.lists o table.each_once) absent);
       at_its_place = λ q u. ⊎_elim
-        (λ (e : t ≡ u). let placed = ap (λ (p : Option Pending). is_at (place_in p) q) (same u e) in
+          (λ (e : t ≡ u). let placed = ap (λ (p : Option Pending). is_at (place_in p) q) (same u e) in
           at_its_place-with w o (ts ++ t ∷ []) q u _ table there
           (λ here. let stands = joins u ts in let is_t = eq-eqb t u e in grind (arith, nat_tests))
           (λ elsewhere. was_none q u e ∙ sym (placed ∙ elsewhere)))
-        (λ apart. let placed = ap (λ (p : Option Pending). is_at (place_in p) q) (other u apart) in
+          (λ apart. let placed = ap (λ (p : Option Pending). is_at (place_in p) q) (other u apart) in
           at_its_place-with w o (ts ++ t ∷ []) q u _ table there
           (λ here. let stands = joins u ts in let isnt_t = ne_eqb t u apart in let before = old_at w o q u table here in grind (arith, nat_tests))
           (λ elsewhere. sym placed))
-        (cases_eq t u);
+          (cases_eq t u);
       numbers_below = λ u m is. ⊎_elim
-        (λ (e : t ≡ u). let has_n : Some n ≡ Some m = sym (ap number_in (same u e)) ∙ is in let n_is_m = same_Some n m has_n in omega arith)
-        (λ apart. table.numbers_below u m (sym (ap number_in (other u apart)) ∙ is))
-        (cases_eq t u);
+          (λ (e : t ≡ u). let has_n : Some n ≡ Some m = sym (ap number_in (same u e)) ∙ is in let n_is_m = same_Some n m has_n in omega arith)
+          (λ apart. table.numbers_below u m (sym (ap number_in (other u apart)) ∙ is))
+          (cases_eq t u);
       numbers_apart = λ u v m at_u at_v. ⊎_elim
-        (λ (e : t ≡ u). ⊎_elim (λ (f : t ≡ v). sym e ∙ f)
+          (λ (e : t ≡ u). ⊎_elim (λ (f : t ≡ v). sym e ∙ f)
           (λ apart. let n_is_m = same_Some n m (sym (ap number_in (same u e)) ∙ at_u) in absurd (unused v (sym (ap number_in (other v apart)) ∙ (at_v ∙ ap Some (sym n_is_m)))))
           (cases_eq t v))
-        (λ apart. ⊎_elim (λ (f : t ≡ v). let n_is_m = same_Some n m (sym (ap number_in (same v f)) ∙ at_v) in absurd (unused u (sym (ap number_in (other u apart)) ∙ (at_u ∙ ap Some (sym n_is_m)))))
+          (λ apart. ⊎_elim (λ (f : t ≡ v). let n_is_m = same_Some n m (sym (ap number_in (same v f)) ∙ at_v) in absurd (unused u (sym (ap number_in (other u apart)) ∙ (at_u ∙ ap Some (sym n_is_m)))))
           (λ apart_v. table.numbers_apart u v m (sym (ap number_in (other u apart)) ∙ at_u) (sym (ap number_in (other v apart_v)) ∙ at_v))
           (cases_eq t v))
-        (cases_eq t u);
+          (cases_eq t u);
       counts = let summed : pending_count (restored w t x n) + weight (pending w t) ≡ pending_count w + 1 = sum_by-set weight w.waits t new None inside in let old : weight (pending w t) ≡ 0 = ap weight none in omega arith;
     }
 
@@ -196,25 +196,25 @@ ended_keeps w t e table some =
       threads = length-set w.waits t None ∙ table.threads;
       each_once = distinct-with w.lists o (without t ts) there table.each_once (distinct-without t ts (distinct_at w.lists o table.each_once));
       at_its_place = λ q u. ⊎_elim
-        (λ (is_t : t ≡ u). let placed : waits_at (ended w t e) q u ≡ false = ap (λ (p : Option Pending). is_at (place_in p) q) (same u is_t) in
+          (λ (is_t : t ≡ u). let placed : waits_at (ended w t e) q u ≡ false = ap (λ (p : Option Pending). is_at (place_in p) q) (same u is_t) in
           at_its_place-with w o (without t ts) q u _ table there
           (λ here. let stands = leaves u ts in let equal = eq-eqb t u is_t in grind (arith, nat_tests))
           (λ elsewhere. subst (λ (v : ℕ). waits_at w q v ≡ false) is_t elsewhere ∙ sym placed))
-        (λ apart. let placed : waits_at (ended w t e) q u ≡ waits_at w q u = ap (λ (p : Option Pending). is_at (place_in p) q) (other u apart) in
+          (λ apart. let placed : waits_at (ended w t e) q u ≡ waits_at w q u = ap (λ (p : Option Pending). is_at (place_in p) q) (other u apart) in
           at_its_place-with w o (without t ts) q u _ table there
           (λ here. let stands = leaves u ts in let differs = ne_eqb t u apart in let before = old_at w o q u table here in grind (arith, nat_tests))
           (λ elsewhere. sym placed))
-        (cases_eq t u);
+          (cases_eq t u);
       numbers_below = λ u m is. ⊎_elim
-        (λ (is_t : t ≡ u). absurd (none-some m (sym (ap number_in (same u is_t)) ∙ is)))
-        (λ apart. subst (λ (b : ℕ). m < b) (sym (begun_stays w.totals e)) (table.numbers_below u m (sym (ap number_in (other u apart)) ∙ is)))
-        (cases_eq t u);
+          (λ (is_t : t ≡ u). absurd (none-some m (sym (ap number_in (same u is_t)) ∙ is)))
+          (λ apart. subst (λ (b : ℕ). m < b) (sym (begun_stays w.totals e)) (table.numbers_below u m (sym (ap number_in (other u apart)) ∙ is)))
+          (cases_eq t u);
       numbers_apart = λ u v m at_u at_v. ⊎_elim
-        (λ (is_t : t ≡ u). absurd (none-some m (sym (ap number_in (same u is_t)) ∙ at_u)))
-        (λ apart. ⊎_elim (λ (is_t : t ≡ v). absurd (none-some m (sym (ap number_in (same v is_t)) ∙ at_v)))
+          (λ (is_t : t ≡ u). absurd (none-some m (sym (ap number_in (same u is_t)) ∙ at_u)))
+          (λ apart. ⊎_elim (λ (is_t : t ≡ v). absurd (none-some m (sym (ap number_in (same v is_t)) ∙ at_v)))
           (λ apart_v. table.numbers_apart u v m (sym (ap number_in (other u apart)) ∙ at_u) (sym (ap number_in (other v apart_v)) ∙ at_v))
           (cases_eq t v))
-        (cases_eq t u);
+          (cases_eq t u);
       counts = let summed : pending_count (ended w t e) + weight (pending w t) ≡ pending_count w + 0 = sum_by-set weight w.waits t None None inside in let old = weight_some (pending w t) some in let more = ended_more w.totals e in let stays = begun_stays w.totals e in omega arith;
     }
 
@@ -229,11 +229,11 @@ put_first_keeps w t table some =
       threads = table.threads;
       each_once = distinct-with w.lists o (t ∷ without t ts) there table.each_once (distinct-first t (without t ts) (distinct-without t ts (distinct_at w.lists o table.each_once)) (not_has-without t ts));
       at_its_place = λ q u. at_its_place-with w o (t ∷ without t ts) q u (waits_at w q u) table there
-        (λ here. let stands = leaves u ts in let before = old_at w o q u table here in ⊎_elim
+          (λ here. let stands = leaves u ts in let before = old_at w o q u table here in ⊎_elim
           (λ (is_t : t ≡ u). let equal = eq-eqb u t (sym is_t) in let waits : waits_at w q u ≡ true = subst (λ (v : ℕ). waits_at w q v ≡ true) is_t here in grind (arith, nat_tests))
           (λ apart. let differs = ne_eqb u t (λ back. apart (sym back)) in let also = ne_eqb t u apart in grind (arith, nat_tests))
           (cases_eq t u))
-        (λ elsewhere. refl);
+          (λ elsewhere. refl);
       numbers_below = table.numbers_below;
       numbers_apart = table.numbers_apart;
       counts = table.counts;
@@ -271,7 +271,9 @@ new_is_table = record {
 } where
   none : Option Pending
   none = None
+
   no_list : (p : ℕ) → slice_index_or (replicate {A = List ℕ} place_count []) p [] ≡ []
   no_list p = ⊎_elim (λ inside. get_or-replicate {A = List ℕ} place_count p [] [] inside) (λ past. get_or_past (replicate {A = List ℕ} place_count []) p [] (subst (λ (n : ℕ). n ≤ p) (sym (length-replicate {A = List ℕ} place_count [])) past)) (cases_lt p place_count)
+
   no_wait : (t : ℕ) → slice_index_or (replicate 256 none) t None ≡ None
   no_wait t = ⊎_elim (λ inside. get_or-replicate 256 t none None inside) (λ past. get_or_past (replicate 256 none) t None (subst (λ (n : ℕ). n ≤ t) (sym (length-replicate 256 none)) past)) (cases_lt t 256)

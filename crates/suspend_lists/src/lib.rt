@@ -21,3 +21,6 @@ pub const PLACES: usize = 272;
 
 /// How many threads there are at most.
 pub const THREADS: usize = 256;
+
+#[cfg(test)]
+mod tests;

@@ -67,8 +67,7 @@ impl ThreadList {
         requires there { has t self.old ≡ true }
         ensures { self.new ≡ t ∷ without t self.old }
     {
-        take_out(&mut self.threads, t);
-        put_first(&mut self.threads, t);
+        move_first(&mut self.threads, t);
     }
 }
 
@@ -95,6 +94,16 @@ fn take_out(threads: &mut Vec<ThreadNo>, t: ThreadNo)
     ensures same_room { vec_capacity threads.new ≡ vec_capacity threads.old }
 {
     threads.retain(|u| t != *u);
+}
+
+/// Moves a thread first that stands in the list.
+fn move_first(threads: &mut Vec<ThreadNo>, t: ThreadNo)
+    requires there { has t threads.old.items ≡ true }
+    ensures items { threads.new.items ≡ t ∷ without t threads.old.items }
+    ensures same_room { vec_capacity threads.new ≡ vec_capacity threads.old }
+{
+    take_out(threads, t);
+    put_first(threads, t);
 }
 
 /// Puts a thread in first.

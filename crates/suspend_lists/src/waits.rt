@@ -9,9 +9,9 @@ ghost use Rattle.suspend_lists.specs.Wait.{place, place_count};
 ghost use Rattle.suspend_lists.specs.ThreadList.{has};
 ghost use Rattle.suspend_lists.specs.Waits.{WaitTable, IsTable, new_table, waiters, waiters_in, joined, left, put_ahead, pending, wait_of, number_of, place_of, first_at, after, restored, begun, ended, put_first, counted, pending_count, ended_count, IsFreeNumber};
 
-use crate::{PLACES, THREADS};
 use crate::thread_list::ThreadList;
 use crate::wait::{On, Pending, Wait};
+use crate::{PLACES, THREADS};
 use std::alloc::Global;
 use std::marker::Model;
 use tx_types::{End, NoMemory, ThreadNo, Totals, WaitNo};
