@@ -10,6 +10,3 @@ mod words;
 pub use names::name_at;
 pub use pointers::pointer_refusal;
 pub use words::{nth_word, put_word, put_words, word_at};
-
-#[cfg(test)]
-mod tests;

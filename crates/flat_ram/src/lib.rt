@@ -8,6 +8,3 @@ mod ram;
 
 pub use laws::{a_number_lies_lowest_byte_first, a_write_changes_its_range_alone};
 pub use ram::{NoMemory, Ram};
-
-#[cfg(test)]
-mod tests;

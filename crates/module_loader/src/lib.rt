@@ -7,8 +7,6 @@
 mod image;
 mod laws;
 mod placement;
-#[cfg(test)]
-mod tests;
 mod threads;
 mod want;
 

@@ -20,6 +20,3 @@ pub const RAM_BASE: u32 = 0x8000_0000;
 
 /// How many regions there can be.
 pub const MOST_REGIONS: u8 = 64;
-
-#[cfg(test)]
-mod tests;

@@ -1,6 +1,6 @@
 //! One short history of a small RAM, worked by hand.
 
-use crate::Ram;
+use flat_ram::Ram;
 use std::test::Fail;
 
 #[test]

@@ -1,0 +1,147 @@
+//! Arguments at the edges of one module's code and data.
+
+use crate::samples::{CODE, DATA, memory};
+use call_arguments::{name_at, pointer_refusal, put_word, put_words, word_at};
+use region_guard::Access::{Fetch, Load, Store};
+use region_guard::{Access, Guard};
+use std::process::Abort;
+use std::test::Fail;
+use tx_types::{Code, ModNo};
+
+/// A module, how the bytes at its argument are used, the argument, and how many bytes.
+type Pointer = (u8, Access, u32, u32);
+
+#[rattlefmt::skip]
+const GOOD: [Pointer; 6] = [
+    (0, Store, 0x8000_00A0, 4),
+    (0, Store, 0x8000_01DC, 4),
+    (0, Store, 0x8000_00A0, 0x140),
+    (0, Load, 0x8000_01DC, 4),
+    (0, Load, 0x8000_0080, 4),
+    (0, Fetch, 0x8000_0080, 4),
+];
+
+#[rattlefmt::skip]
+const OUTSIDE: [Pointer; 10] = [
+    (0, Fetch, 0x8000_0080, 8),
+    (0, Fetch, 0x8000_00A0, 4),
+    (0, Store, 0x8000_0080, 4),
+    (0, Store, 0x8000_009C, 8),
+    (0, Store, 0x8000_01E0, 4),
+    (0, Store, 0x8000_01DC, 8),
+    (0, Store, 0x8000_00A0, 0xFFFF_FFFF),
+    (0, Load, 0xFFFF_FFFC, 4),
+    (0, Load, 0xFFFF_FFFC, 0x8000_00C0),
+    (1, Load, 0x8000_00A0, 4),
+];
+
+/// Null, and not at a multiple of 4.
+#[rattlefmt::skip]
+const NO_POINTER: [Pointer; 5] = [
+    (0, Store, 0, 4),
+    (0, Fetch, 0, 0),
+    (0, Store, 0x8000_00A2, 4),
+    (0, Store, 0x8000_01DD, 4),
+    (0, Fetch, 0x8000_0001, 4),
+];
+
+/// All of the pointers are refused so, or none is.
+fn check(rt: &impl Abort, g: &Guard, pointers: &[Pointer], refusal: Option<Code>) {
+    for (m, access, x, n) in pointers {
+        let answer = pointer_refusal(g, ModNo::new(*m % 16), *access, *x, *n);
+        assert_eq!(rt; answer, refusal, "{n} bytes at {x:x}");
+    }
+}
+
+#[test]
+fn pointers_at_the_edges_of_the_regions(rt: HostRuntime) -> Result<(), Fail> {
+    let g = memory(rt.alloc(), &[CODE, DATA])?;
+    check(&rt, &g, &GOOD, None);
+    check(&rt, &g, &OUTSIDE, Some(Code::INVALID_MEMORY));
+    check(&rt, &g, &NO_POINTER, Some(Code::PTR_ERROR));
+    Ok(())
+}
+
+/// A module, the address of a name, and how many bytes the name has, in data that is full of letters but
+/// for one zero.
+#[rattlefmt::skip]
+const NAMES: [(u8, u32, usize); 6] = [
+    (0, 0, 0),
+    (1, 0, 0),
+    (0, 0x8000_0100, 0),
+    (0, 0x8000_00FF, 1),
+    (0, 0x8000_00E1, 31),
+    (0, 0x8000_0083, 0),
+];
+
+/// Names without a zero in the 32 bytes that a name may have.
+const LONG: [(u8, u32); 2] = [(0, 0x8000_00E0), (0, 0x8000_01C0)];
+
+/// Names that come to the end of a region, or begin in none.
+#[rattlefmt::skip]
+const NAMES_OUTSIDE: [(u8, u32); 6] = [
+    (0, 0x8000_01C1),
+    (0, 0x8000_01DF),
+    (0, 0x8000_01E0),
+    (0, 0x8000_009F),
+    (0, 0xFFFF_FFFF),
+    (1, 0x8000_0100),
+];
+
+fn length(g: &Guard, m: u8, x: u32) -> Result<usize, Code> {
+    name_at(g, ModNo::new(m % 16), x).map(|n| n.bytes().len())
+}
+
+fn check_refused(rt: &impl Abort, g: &Guard, names: &[(u8, u32)], refusal: Code) {
+    for (m, x) in names {
+        assert_eq!(rt; length(g, *m, *x), Err(refusal), "the name at {x:x}");
+    }
+}
+
+#[test]
+fn names_up_to_their_zero(rt: HostRuntime) -> Result<(), Fail> {
+    let mut g = memory(rt.alloc(), &[CODE, DATA])?;
+    let filled = [
+        g.with_window(ModNo::new(0), 0x8000_00A0, 0x140, |w| w.fill(b'n')),
+        g.with_window(ModNo::new(0), 0x8000_0100, 1, |w| w.fill(0)),
+    ];
+    assert_eq!(rt; filled, [Some(()); 2]);
+    for (m, x, n) in NAMES {
+        assert_eq!(rt; length(&g, m, x), Ok(n), "the name at {x:x}");
+    }
+    check_refused(&rt, &g, &LONG, Code::PTR_ERROR);
+    check_refused(&rt, &g, &NAMES_OUTSIDE, Code::INVALID_MEMORY);
+    Ok(())
+}
+
+/// The word at an address, where module 0 may load it.
+fn word(g: &Guard, a: u32) -> Option<u32> {
+    let m = ModNo::new(0);
+    g.may(m, Load, a, 4).then(|| word_at(g, m, a))
+}
+
+/// The name at an address is this text.
+fn is_named(g: &Guard, x: u32, text: &[u8]) -> bool {
+    name_at(g, ModNo::new(0), x).is_ok_and(|n| n.bytes() == text)
+}
+
+#[test]
+fn words_are_read_back_and_as_a_name(rt: HostRuntime) -> Result<(), Fail> {
+    let mut g = memory(rt.alloc(), &[CODE, DATA])?;
+    let m = ModNo::new(0);
+    if g.may(m, Store, 0x8000_01D4, 12) {
+        put_words(&mut g, m, 0x8000_01D4, &[0x6867_6968, 7, 0x0077_6F6C]);
+    }
+    let words = [0x8000_01D0, 0x8000_01D4, 0x8000_01D8, 0x8000_01DC].map(|a| word(&g, a));
+    assert_eq!(rt;
+        words,
+        [Some(0), Some(0x6867_6968), Some(7), Some(0x0077_6F6C)]
+    );
+    let low = is_named(&g, 0x8000_01DC, b"low");
+    if g.may(m, Store, 0x8000_01D8, 4) {
+        put_word(&mut g, m, 0x8000_01D8, 0x2072_6F20);
+    }
+    let both = is_named(&g, 0x8000_01D4, b"high or low");
+    assert_eq!(rt; [low, both], [true; 2]);
+    Ok(())
+}

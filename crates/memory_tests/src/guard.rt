@@ -1,0 +1,154 @@
+//! Who may use what of one module's code, data and share; what is stored there; and full memory.
+
+use crate::samples::{CODE, DATA, SHARE, add, memory};
+use region_guard::Access::{Fetch, Load, Store};
+use region_guard::{Access, AddErr, Guard, Region};
+use std::process::Abort;
+use std::test::Fail;
+use tx_types::ModNo;
+
+/// A module, how it uses memory, an address, and how many bytes from there on.
+type Use = (u8, Access, u32, u32);
+
+#[rattlefmt::skip]
+const ALLOWED: [Use; 10] = [
+    (0, Store, 0x8000_01DC, 4),
+    (0, Store, 0x8000_01DF, 1),
+    (0, Store, 0x8000_00A0, 0x140),
+    (0, Load, 0x8000_0000, 4),
+    (0, Load, 0x8000_0080, 4),
+    (0, Fetch, 0x8000_0080, 4),
+    (0, Load, 0x8000_00A0, 4),
+    (0, Load, 0x8000_01E0, 4),
+    (3, Load, 0x8000_01E0, 4),
+    (3, Load, 0x8000_01FC, 4),
+];
+
+#[rattlefmt::skip]
+const REFUSED: [Use; 18] = [
+    (0, Store, 0x8000_01DD, 4),
+    (0, Store, 0x8000_01E0, 4),
+    (0, Store, 0x8000_00A0, 0x141),
+    (0, Store, 0x8000_009F, 4),
+    (0, Load, 0x8000_0081, 4),
+    (0, Store, 0x8000_0080, 4),
+    (0, Fetch, 0x8000_00A0, 4),
+    (0, Load, 0x8000_01DE, 4),
+    (3, Load, 0x8000_00A0, 4),
+    (1, Load, 0x8000_01E0, 4),
+    (1, Load, 0x8000_0000, 4),
+    (0, Load, 0x7FFF_FFFF, 4),
+    (0, Load, 0x0000_0000, 4),
+    (0, Load, 0xFFFF_FFFC, 0x8000_0020),
+    (0, Load, 0x8000_0000, 0xFFFF_FFFF),
+    (15, Load, 0x8000_01E0, 4),
+    (1, Store, 0x0000_0000, 4),
+    (0, Fetch, 0xFFFF_FFFF, 4),
+];
+
+/// Each of the uses is allowed, or none is; and no address at all may be used by anyone.
+fn check(rt: &impl Abort, g: &Guard, uses: &[Use], allowed: bool) {
+    for (m, access, a, n) in uses {
+        let m = ModNo::new(*m % 16);
+        let answers = [
+            g.may(m, *access, *a, *n),
+            g.reaches(m, *access, *a, *n),
+            g.bytes(m, *access, *a, *n).is_some(),
+        ];
+        let of_none = [g.may(m, *access, *a, 0), g.reaches(m, *access, *a, 0)];
+        assert_eq!(rt;
+            (answers, of_none),
+            ([allowed; 3], [true, false]),
+            "{n} bytes at {a:x}"
+        );
+    }
+}
+
+#[test]
+fn a_range_lies_in_one_region_that_allows_it(rt: HostRuntime) -> Result<(), Fail> {
+    let g = memory(rt.alloc(), &[CODE, DATA, SHARE])?;
+    check(&rt, &g, &ALLOWED, true);
+    check(&rt, &g, &REFUSED, false);
+    Ok(())
+}
+
+#[test]
+fn what_is_stored_is_read(rt: HostRuntime) -> Result<(), Fail> {
+    let mut g = memory(rt.alloc(), &[CODE, DATA, SHARE])?;
+    let m = ModNo::new(0);
+    if g.may(m, Store, 0x8000_01DC, 4) {
+        g.put(m, 0x8000_01DC, 4, 0x0403_0201);
+    }
+    let half = g
+        .may(m, Load, 0x8000_01DD, 2)
+        .then(|| g.get(m, Load, 0x8000_01DD, 2));
+    let last = [g.byte(m, Load, 0x8000_01DF), g.byte(m, Store, 0x8000_01E0)];
+    assert_eq!(rt; (half, last), (Some(0x0302), [Some(4), None]));
+    assert_eq!(rt; read(&g, 0x8000_01DA, 6), [0, 0, 1, 2, 3, 4].as_slice());
+    Ok(())
+}
+
+#[test]
+fn a_window_is_the_very_bytes(rt: HostRuntime) -> Result<(), Fail> {
+    let mut g = memory(rt.alloc(), &[CODE, DATA, SHARE])?;
+    let m = ModNo::new(0);
+    if g.reaches(m, Store, 0x8000_01DC, 2) {
+        g.window(m, 0x8000_01DC, 2).copy_from_slice(&[7, 8]);
+    }
+    let written = [
+        g.with_window(m, 0x8000_01DF, 1, |w| w.fill(9)),
+        g.with_window(m, 0x8000_01DF, 2, |w| w.fill(1)),
+        g.with_window(m, 0x8000_01DF, 0, |w| w.fill(1)),
+    ];
+    assert_eq!(rt; written, [Some(()), None, None]);
+    assert_eq!(rt; read(&g, 0x8000_01DA, 6), [0, 0, 7, 8, 0, 9].as_slice());
+    Ok(())
+}
+
+fn read(g: &Guard, a: u32, n: u32) -> &[u8] {
+    g.bytes(ModNo::new(0), Load, a, n).unwrap_or(&[])
+}
+
+/// Where a region begins, its size, and the place of the first region that it meets.
+#[rattlefmt::skip]
+const OVERLAPS: [(u32, u32, u8); 6] = [
+    (0x8000_0000, 1, 0),
+    (0x8000_0083, 0x1F, 0),
+    (0x8000_009F, 2, 1),
+    (0x8000_01DF, 2, 1),
+    (0x8000_01FF, 0x10, 2),
+    (0x8000_0000, 0x1000, 0),
+];
+
+/// A region of module 0's.
+fn region(base: u32, size: u32) -> Region {
+    Region { base, size, ..DATA }
+}
+
+#[test]
+fn regions_that_meet_are_refused(rt: HostRuntime) -> Result<(), Fail> {
+    let mut g = memory(rt.alloc(), &[CODE, DATA, SHARE])?;
+    for (base, size, place) in OVERLAPS {
+        let answer = add(&mut g, region(base, size));
+        assert_eq!(rt;
+            answer,
+            Some(Err(AddErr::Overlap(place))),
+            "{size} at {base:x}"
+        );
+    }
+    assert_eq!(rt; g.regions(), [CODE, DATA, SHARE].as_slice());
+    Ok(())
+}
+
+#[test]
+fn full_memory_takes_no_region(rt: HostRuntime) -> Result<(), Fail> {
+    let mut g = memory(rt.alloc(), &[CODE, DATA, SHARE])?;
+    for i in 3..64 {
+        let answer = add(&mut g, region(0x8000_0200 + 32 * i, 32));
+        assert_eq!(rt; answer, Some(Ok(())), "region {i}");
+    }
+    let more = [add(&mut g, region(0x8000_0FFF, 1)), add(&mut g, CODE)];
+    assert_eq!(rt; more, [Some(Err(AddErr::Full)); 2]);
+    assert_eq!(rt; g.regions().len(), 64);
+    Ok(())
+}
