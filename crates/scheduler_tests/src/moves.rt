@@ -1,6 +1,7 @@
 //! Sequences of moves worked by hand: who runs after each, and who is held.
 
 use ready_maps::Ready;
+use std::alloc::Global;
 use std::test::Fail;
 use tx_types::{Prio, ThreadNo, Thresh};
 
@@ -93,46 +94,39 @@ fn follow(r: &mut Ready, steps: &[Step]) -> Result<(), Fail> {
     Ok(())
 }
 
-#[test]
-fn a_threshold_keeps_threads_back(rt: HostRuntime) -> Result<(), Fail> {
-    let table: [&[Step]; 3] = [
-        // the threshold keeps a thread back that the priority alone would let through
-        &[
-            (Move::Priority(1, 10, 5), None, &[]),
-            (Move::Priority(2, 7, 7), None, &[]),
-            (Move::Priority(3, 4, 4), None, &[]),
-            (Move::Ready(1), Some(1), &[]),
-            (Move::Ready(2), Some(1), &[]),
-            (Move::Ready(3), Some(3), &[1]),
-            (Move::Unready(3), Some(1), &[]),
-            (Move::Unready(1), Some(2), &[]),
-        ],
-        // a thread at the threshold doesn't preempt, one below it does
-        &[
-            (Move::Priority(1, 10, 5), None, &[]),
-            (Move::Priority(2, 5, 5), None, &[]),
-            (Move::Priority(3, 4, 4), None, &[]),
-            (Move::Ready(1), Some(1), &[]),
-            (Move::Ready(2), Some(1), &[]),
-            (Move::Ready(3), Some(3), &[1]),
-        ],
-        // who takes the priority of a holder goes after it
-        &[
-            (Move::Priority(1, 20, 8), None, &[]),
-            (Move::Priority(2, 7, 2), None, &[]),
-            (Move::Ready(1), Some(1), &[]),
-            (Move::Ready(2), Some(2), &[1]),
-            (Move::Priority(2, 20, 20), Some(1), &[]),
-        ],
-    ];
-    for steps in table {
-        let mut r = Ready::new(rt.alloc(), 32).map_err(|_| "no memory")?;
-        follow(&mut r, steps)?;
-    }
-    Ok(())
-}
+/// Threads that a threshold keeps back.
+const KEPT_BACK: [&[Step]; 3] = [
+    // the threshold keeps a thread back that the priority alone would let through
+    &[
+        (Move::Priority(1, 10, 5), None, &[]),
+        (Move::Priority(2, 7, 7), None, &[]),
+        (Move::Priority(3, 4, 4), None, &[]),
+        (Move::Ready(1), Some(1), &[]),
+        (Move::Ready(2), Some(1), &[]),
+        (Move::Ready(3), Some(3), &[1]),
+        (Move::Unready(3), Some(1), &[]),
+        (Move::Unready(1), Some(2), &[]),
+    ],
+    // a thread at the threshold doesn't preempt, one below it does
+    &[
+        (Move::Priority(1, 10, 5), None, &[]),
+        (Move::Priority(2, 5, 5), None, &[]),
+        (Move::Priority(3, 4, 4), None, &[]),
+        (Move::Ready(1), Some(1), &[]),
+        (Move::Ready(2), Some(1), &[]),
+        (Move::Ready(3), Some(3), &[1]),
+    ],
+    // who takes the priority of a holder goes after it
+    &[
+        (Move::Priority(1, 20, 8), None, &[]),
+        (Move::Priority(2, 7, 2), None, &[]),
+        (Move::Ready(1), Some(1), &[]),
+        (Move::Ready(2), Some(2), &[1]),
+        (Move::Priority(2, 20, 20), Some(1), &[]),
+    ],
+];
 
-/// The priorities and thresholds of threads 1 to 7 in the sequences below.
+/// The priorities and thresholds of threads 1 to 7 in the sequences after it.
 const NUMBERS: &[Step] = &[
     (Move::Priority(1, 10, 5), None, &[]),
     (Move::Priority(2, 7, 7), None, &[]),
@@ -143,183 +137,194 @@ const NUMBERS: &[Step] = &[
     (Move::Priority(7, 3, 1), None, &[]),
 ];
 
-#[test]
-fn sequences_of_moves(rt: HostRuntime) -> Result<(), Fail> {
-    let table: [&[Step]; 24] = [
-        // who yields goes after those of its priority
-        &[
-            (Move::Ready(4), Some(4), &[]),
-            (Move::Ready(5), Some(4), &[]),
-            (Move::Yield, Some(5), &[]),
-            (Move::Yield, Some(4), &[]),
-        ],
-        // alone it runs on
-        &[(Move::Ready(1), Some(1), &[]), (Move::Yield, Some(1), &[])],
-        // and isn't held
-        &[
-            (Move::Ready(1), Some(1), &[]),
-            (Move::Ready(2), Some(1), &[]),
-            (Move::Yield, Some(2), &[]),
-        ],
-        // who is readied goes last
-        &[
-            (Move::Ready(4), Some(4), &[]),
-            (Move::Ready(5), Some(4), &[]),
-            (Move::Ready(1), Some(4), &[]),
-            (Move::Unready(4), Some(5), &[]),
-            (Move::Unready(5), Some(1), &[]),
-        ],
-        // a thread whose threshold is its priority isn't held
-        &[
-            (Move::Ready(6), Some(6), &[]),
-            (Move::Ready(2), Some(2), &[6]),
-            (Move::Ready(3), Some(3), &[6]),
-            (Move::Unready(3), Some(2), &[6]),
-            (Move::Unready(2), Some(6), &[]),
-        ],
-        // two are held, and run again one after the other
-        &[
-            (Move::Priority(2, 7, 4), None, &[]),
-            (Move::Ready(6), Some(6), &[]),
-            (Move::Ready(2), Some(2), &[6]),
-            (Move::Ready(7), Some(7), &[2, 6]),
-            (Move::Unready(7), Some(2), &[6]),
-            (Move::Unready(2), Some(6), &[]),
-        ],
-        // the first holder outlasts a second preemption
-        &[
-            (Move::Ready(1), Some(1), &[]),
-            (Move::Ready(3), Some(3), &[1]),
-            (Move::Ready(7), Some(7), &[1]),
-            (Move::Unready(7), Some(3), &[1]),
-            (Move::Unready(3), Some(1), &[]),
-        ],
-        // a holder is suspended
-        &[
-            (Move::Ready(1), Some(1), &[]),
-            (Move::Ready(3), Some(3), &[1]),
-            (Move::Unready(1), Some(3), &[]),
-            (Move::Unready(3), None, &[]),
-        ],
-        // a ready thread is suspended
-        &[
-            (Move::Ready(1), Some(1), &[]),
-            (Move::Ready(2), Some(1), &[]),
-            (Move::Unready(2), Some(1), &[]),
-            (Move::Unready(1), None, &[]),
-        ],
-        // a holder's threshold becomes its priority
-        &[
-            (Move::Ready(1), Some(1), &[]),
-            (Move::Ready(3), Some(3), &[1]),
-            (Move::Threshold(1, 10), Some(3), &[]),
-            (Move::Ready(2), Some(3), &[]),
-            (Move::Unready(3), Some(2), &[]),
-        ],
-        // it is lowered
-        &[
-            (Move::Ready(1), Some(1), &[]),
-            (Move::Ready(3), Some(3), &[1]),
-            (Move::Threshold(1, 2), Some(3), &[1]),
-            (Move::Ready(2), Some(3), &[1]),
-            (Move::Unready(3), Some(1), &[]),
-        ],
-        // it is raised: a thread below it runs first
-        &[
-            (Move::Ready(1), Some(1), &[]),
-            (Move::Ready(3), Some(3), &[1]),
-            (Move::Threshold(1, 8), Some(3), &[1]),
-            (Move::Ready(2), Some(3), &[1]),
-            (Move::Unready(3), Some(2), &[1]),
-            (Move::Unready(2), Some(1), &[]),
-        ],
-        // the running thread's threshold is raised to its priority, above another's, and to another's
-        &[
-            (Move::Ready(1), Some(1), &[]),
-            (Move::Ready(2), Some(1), &[]),
-            (Move::Threshold(1, 10), Some(2), &[]),
-        ],
-        &[
-            (Move::Ready(1), Some(1), &[]),
-            (Move::Ready(2), Some(1), &[]),
-            (Move::Threshold(1, 8), Some(2), &[1]),
-            (Move::Unready(2), Some(1), &[]),
-        ],
-        &[
-            (Move::Ready(1), Some(1), &[]),
-            (Move::Ready(2), Some(1), &[]),
-            (Move::Threshold(1, 7), Some(1), &[]),
-        ],
-        // a ready thread gets its priority again and goes last
-        &[
-            (Move::Ready(4), Some(4), &[]),
-            (Move::Ready(5), Some(4), &[]),
-            (Move::Ready(1), Some(4), &[]),
-            (Move::Priority(5, 10, 10), Some(4), &[]),
-            (Move::Unready(4), Some(1), &[]),
-            (Move::Unready(1), Some(5), &[]),
-        ],
-        // it gets another and preempts
-        &[
-            (Move::Ready(1), Some(1), &[]),
-            (Move::Ready(2), Some(1), &[]),
-            (Move::Priority(2, 4, 4), Some(2), &[1]),
-        ],
-        // a holder gets its priority again and is held no longer
-        &[
-            (Move::Ready(1), Some(1), &[]),
-            (Move::Ready(3), Some(3), &[1]),
-            (Move::Priority(1, 10, 5), Some(3), &[]),
-            (Move::Ready(2), Some(3), &[]),
-            (Move::Unready(3), Some(2), &[]),
-        ],
-        // the running thread gets a less urgent priority, with a threshold above and below another's
-        &[
-            (Move::Ready(1), Some(1), &[]),
-            (Move::Ready(2), Some(1), &[]),
-            (Move::Priority(1, 20, 8), Some(2), &[1]),
-            (Move::Unready(2), Some(1), &[]),
-        ],
-        &[
-            (Move::Ready(1), Some(1), &[]),
-            (Move::Ready(2), Some(1), &[]),
-            (Move::Priority(1, 20, 6), Some(1), &[]),
-        ],
-        // it gets its priority again and runs on
-        &[
-            (Move::Ready(4), Some(4), &[]),
-            (Move::Ready(5), Some(4), &[]),
-            (Move::Priority(4, 10, 10), Some(4), &[]),
-        ],
-        // a thread gets another priority while it isn't ready
-        &[
-            (Move::Ready(3), Some(3), &[]),
-            (Move::Priority(2, 1, 1), Some(3), &[]),
-            (Move::Ready(2), Some(2), &[]),
-            (Move::Unready(2), Some(3), &[]),
-        ],
-        // nothing is ready in between
-        &[
-            (Move::Ready(3), Some(3), &[]),
-            (Move::Unready(3), None, &[]),
-            (Move::Ready(5), Some(5), &[]),
-        ],
-        // who yields below a holder runs on; the holder runs before others of its urgency
-        &[
-            (Move::Ready(6), Some(6), &[]),
-            (Move::Ready(2), Some(2), &[6]),
-            (Move::Yield, Some(2), &[6]),
-            (Move::Ready(1), Some(2), &[6]),
-            (Move::Unready(2), Some(6), &[]),
-            (Move::Yield, Some(1), &[]),
-        ],
-    ];
-    for steps in table {
-        let mut r = Ready::new(rt.alloc(), 32).map_err(|_| "no memory")?;
-        follow(&mut r, NUMBERS)?;
+const SEQUENCES: [&[Step]; 24] = [
+    // who yields goes after those of its priority
+    &[
+        (Move::Ready(4), Some(4), &[]),
+        (Move::Ready(5), Some(4), &[]),
+        (Move::Yield, Some(5), &[]),
+        (Move::Yield, Some(4), &[]),
+    ],
+    // alone it runs on
+    &[(Move::Ready(1), Some(1), &[]), (Move::Yield, Some(1), &[])],
+    // and isn't held
+    &[
+        (Move::Ready(1), Some(1), &[]),
+        (Move::Ready(2), Some(1), &[]),
+        (Move::Yield, Some(2), &[]),
+    ],
+    // who is readied goes last
+    &[
+        (Move::Ready(4), Some(4), &[]),
+        (Move::Ready(5), Some(4), &[]),
+        (Move::Ready(1), Some(4), &[]),
+        (Move::Unready(4), Some(5), &[]),
+        (Move::Unready(5), Some(1), &[]),
+    ],
+    // a thread whose threshold is its priority isn't held
+    &[
+        (Move::Ready(6), Some(6), &[]),
+        (Move::Ready(2), Some(2), &[6]),
+        (Move::Ready(3), Some(3), &[6]),
+        (Move::Unready(3), Some(2), &[6]),
+        (Move::Unready(2), Some(6), &[]),
+    ],
+    // two are held, and run again one after the other
+    &[
+        (Move::Priority(2, 7, 4), None, &[]),
+        (Move::Ready(6), Some(6), &[]),
+        (Move::Ready(2), Some(2), &[6]),
+        (Move::Ready(7), Some(7), &[2, 6]),
+        (Move::Unready(7), Some(2), &[6]),
+        (Move::Unready(2), Some(6), &[]),
+    ],
+    // the first holder outlasts a second preemption
+    &[
+        (Move::Ready(1), Some(1), &[]),
+        (Move::Ready(3), Some(3), &[1]),
+        (Move::Ready(7), Some(7), &[1]),
+        (Move::Unready(7), Some(3), &[1]),
+        (Move::Unready(3), Some(1), &[]),
+    ],
+    // a holder is suspended
+    &[
+        (Move::Ready(1), Some(1), &[]),
+        (Move::Ready(3), Some(3), &[1]),
+        (Move::Unready(1), Some(3), &[]),
+        (Move::Unready(3), None, &[]),
+    ],
+    // a ready thread is suspended
+    &[
+        (Move::Ready(1), Some(1), &[]),
+        (Move::Ready(2), Some(1), &[]),
+        (Move::Unready(2), Some(1), &[]),
+        (Move::Unready(1), None, &[]),
+    ],
+    // a holder's threshold becomes its priority
+    &[
+        (Move::Ready(1), Some(1), &[]),
+        (Move::Ready(3), Some(3), &[1]),
+        (Move::Threshold(1, 10), Some(3), &[]),
+        (Move::Ready(2), Some(3), &[]),
+        (Move::Unready(3), Some(2), &[]),
+    ],
+    // it is lowered
+    &[
+        (Move::Ready(1), Some(1), &[]),
+        (Move::Ready(3), Some(3), &[1]),
+        (Move::Threshold(1, 2), Some(3), &[1]),
+        (Move::Ready(2), Some(3), &[1]),
+        (Move::Unready(3), Some(1), &[]),
+    ],
+    // it is raised: a thread below it runs first
+    &[
+        (Move::Ready(1), Some(1), &[]),
+        (Move::Ready(3), Some(3), &[1]),
+        (Move::Threshold(1, 8), Some(3), &[1]),
+        (Move::Ready(2), Some(3), &[1]),
+        (Move::Unready(3), Some(2), &[1]),
+        (Move::Unready(2), Some(1), &[]),
+    ],
+    // the running thread's threshold is raised to its priority, above another's, and to another's
+    &[
+        (Move::Ready(1), Some(1), &[]),
+        (Move::Ready(2), Some(1), &[]),
+        (Move::Threshold(1, 10), Some(2), &[]),
+    ],
+    &[
+        (Move::Ready(1), Some(1), &[]),
+        (Move::Ready(2), Some(1), &[]),
+        (Move::Threshold(1, 8), Some(2), &[1]),
+        (Move::Unready(2), Some(1), &[]),
+    ],
+    &[
+        (Move::Ready(1), Some(1), &[]),
+        (Move::Ready(2), Some(1), &[]),
+        (Move::Threshold(1, 7), Some(1), &[]),
+    ],
+    // a ready thread gets its priority again and goes last
+    &[
+        (Move::Ready(4), Some(4), &[]),
+        (Move::Ready(5), Some(4), &[]),
+        (Move::Ready(1), Some(4), &[]),
+        (Move::Priority(5, 10, 10), Some(4), &[]),
+        (Move::Unready(4), Some(1), &[]),
+        (Move::Unready(1), Some(5), &[]),
+    ],
+    // it gets another and preempts
+    &[
+        (Move::Ready(1), Some(1), &[]),
+        (Move::Ready(2), Some(1), &[]),
+        (Move::Priority(2, 4, 4), Some(2), &[1]),
+    ],
+    // a holder gets its priority again and is held no longer
+    &[
+        (Move::Ready(1), Some(1), &[]),
+        (Move::Ready(3), Some(3), &[1]),
+        (Move::Priority(1, 10, 5), Some(3), &[]),
+        (Move::Ready(2), Some(3), &[]),
+        (Move::Unready(3), Some(2), &[]),
+    ],
+    // the running thread gets a less urgent priority, with a threshold above and below another's
+    &[
+        (Move::Ready(1), Some(1), &[]),
+        (Move::Ready(2), Some(1), &[]),
+        (Move::Priority(1, 20, 8), Some(2), &[1]),
+        (Move::Unready(2), Some(1), &[]),
+    ],
+    &[
+        (Move::Ready(1), Some(1), &[]),
+        (Move::Ready(2), Some(1), &[]),
+        (Move::Priority(1, 20, 6), Some(1), &[]),
+    ],
+    // it gets its priority again and runs on
+    &[
+        (Move::Ready(4), Some(4), &[]),
+        (Move::Ready(5), Some(4), &[]),
+        (Move::Priority(4, 10, 10), Some(4), &[]),
+    ],
+    // a thread gets another priority while it isn't ready
+    &[
+        (Move::Ready(3), Some(3), &[]),
+        (Move::Priority(2, 1, 1), Some(3), &[]),
+        (Move::Ready(2), Some(2), &[]),
+        (Move::Unready(2), Some(3), &[]),
+    ],
+    // nothing is ready in between
+    &[
+        (Move::Ready(3), Some(3), &[]),
+        (Move::Unready(3), None, &[]),
+        (Move::Ready(5), Some(5), &[]),
+    ],
+    // who yields below a holder runs on; the holder runs before others of its urgency
+    &[
+        (Move::Ready(6), Some(6), &[]),
+        (Move::Ready(2), Some(2), &[6]),
+        (Move::Yield, Some(2), &[6]),
+        (Move::Ready(1), Some(2), &[6]),
+        (Move::Unready(2), Some(6), &[]),
+        (Move::Yield, Some(1), &[]),
+    ],
+];
+
+/// Follows each sequence on a scheduler that begins with the same moves.
+fn follow_each(alloc: Global, first: &[Step], sequences: &[&[Step]]) -> Result<(), Fail> {
+    for steps in sequences {
+        let mut r = Ready::new(alloc, 32).map_err(|_| "no memory")?;
+        follow(&mut r, first)?;
         follow(&mut r, steps)?;
     }
     Ok(())
+}
+
+#[test]
+fn a_threshold_keeps_threads_back(rt: HostRuntime) -> Result<(), Fail> {
+    follow_each(rt.alloc(), &[], &KEPT_BACK)
+}
+
+#[test]
+fn sequences_of_moves(rt: HostRuntime) -> Result<(), Fail> {
+    follow_each(rt.alloc(), NUMBERS, &SEQUENCES)
 }
 
 #[test]
@@ -342,9 +347,9 @@ fn what_can_be_read(rt: HostRuntime) -> Result<(), Fail> {
     assert_eq!(rt; numbers, (1024, Prio::new(10), Thresh::new(5)));
     let first = [r.first_at(Prio::new(10)), r.first_at(Prio::new(5))];
     assert_eq!(rt; first, [Some(thread(4)), None]);
-    let next = [4, 1, 3].map(|t| r.after(thread(t)));
+    let next = [r.after(thread(4)), r.after(thread(1)), r.after(thread(3))];
     assert_eq!(rt; next, [Some(thread(1)), None, None]);
-    let ready = [1, 5].map(|t| r.is_ready(thread(t)));
+    let ready = [r.is_ready(thread(1)), r.is_ready(thread(5))];
     assert_eq!(rt; ready, [true, false]);
     Ok(())
 }
@@ -367,7 +372,7 @@ fn a_restored_state_goes_on(rt: HostRuntime) -> Result<(), Fail> {
     let mut r = Ready::new(rt.alloc(), 32).map_err(|_| "no memory")?;
     follow(&mut r, NUMBERS)?;
     let may = restore_two(&mut r, thread(1), thread(3));
-    let held = [1, 3].map(|t| r.is_held(thread(t)));
+    let held = [r.is_held(thread(1)), r.is_held(thread(3))];
     assert_eq!(rt;
         (may, r.running(), held),
         (true, Some(thread(3)), [true, false])
