@@ -1,7 +1,7 @@
 -- A call leaves used slots with started modules.
 use Rattle.std.proofs.Common.{◌≡◌, ℕ, ◌==◌, ◌&&◌, ◌||◌, Bool, true, false, not, nat_le, nat_lt, List, Option, None, Some, Result, Ok, Err, position, refl, ap, subst}
 use Rattle.std.proofs.lemmas.Bool.{and_parts, cond_both, eqb-true}
-use Rattle.tx_types.specs.Code.{delete_error, option_error, no_instance, no_memory, priority_error, thread_error, thresh_error}
+use Rattle.tx_types.specs.Code.{delete_error, feature_not_enabled, option_error, no_instance, no_memory, priority_error, thread_error, thresh_error}
 use Rattle.tx_types.specs.Kind.{kind_of}
 use Rattle.tx_types.specs.Reference.{slot_of}
 use Rattle.tx_types.specs.declared.kind.Kind.{Kind}
@@ -26,9 +26,9 @@ use Rattle.kernel_state.specs.declared.kernel.Kernel.{Kernel}
 use Rattle.thread_calls.specs.Changes.{ended, suspended}
 use Rattle.thread_calls.specs.Create.{block_at, block_refusal, created}
 use Rattle.thread_calls.specs.ObjectRows.{allocation, granting, object_allocate_row, object_deallocate_row, object_pointer_get_row}
-use Rattle.thread_calls.specs.ThreadRows.{arg, creation, resumption, thread_create_row, thread_delete_row, thread_terminate_row, thread_suspend_row, thread_resume_row, thread_relinquish_row, thread_identify_row, thread_info_get_row, thread_preemption_change_row, thread_priority_change_row, thread_time_slice_change_row, thread_reset_row, thread_complete_row}
+use Rattle.thread_calls.specs.ThreadRows.{arg, creation, priority_change, resumption, slice_change, starting, threshold_change, thread_create_row, thread_delete_row, thread_terminate_row, thread_suspend_row, thread_resume_row, thread_relinquish_row, thread_identify_row, thread_info_get_row, thread_preemption_change_row, thread_priority_change_row, thread_time_slice_change_row, thread_reset_row, thread_complete_row}
 use Rattle.call_dispatch.specs.Ecall.{arguments, dispatched, number_asked, with_answer}
-use Rattle.call_dispatch.specs.Rows.{call_row, feature_not_enabled, served}
+use Rattle.call_dispatch.specs.Rows.{call_row, served}
 use Rattle.call_dispatch.specs.Service.{service_of}
 use Rattle.call_dispatch.specs.declared.service.Service.{Service}
 use Rattle.call_dispatch.specs.declared.service.Service.TheVariants.{ObjectAllocate, ObjectDeallocate, ObjectPointerGet, ThreadCreate, ThreadDelete, ThreadTerminate, ThreadSuspend, ThreadResume, ThreadRelinquish, ThreadIdentify, ThreadInfoGet, ThreadPreemptionChange, ThreadPriorityChange, ThreadTimeSliceChange, ThreadReset, ThreadComplete}
@@ -89,7 +89,7 @@ pub ended_owned : (ms : List Module) (k : Kernel) (t : ℕ) (state : State) → 
 ended_owned ms k t state before = cond_both (is_over (thread k t).state) k _ (Owned ms) (λ _. before) (λ _. before)
 
 pub resumption_owned : (ms : List Module) (k : Kernel) (g : Memory) (t : ℕ) → Owned ms k → OwnedAfter ms (resumption k g t)
-unfolding resumption
+unfolding resumption starting
 resumption_owned ms k g t before = cond_both (thread k t).held _ _ (OwnedAfter ms) (λ _. before) (λ _. unless_owned ms k g _ _ before before)
 
 -- the services, a lemma for each
@@ -166,21 +166,21 @@ module _ (ms : List Module) (k : Kernel) (g : Memory) (by : ℕ) (a : List ℕ) 
   thread_info_get_owned = thread_found_owned _ (λ t. unless_owned ms k g _ _ before before)
 
   thread_preemption_change_owned : OwnedAfter ms (thread_preemption_change_row k g by a)
-  unfolding thread_preemption_change_row
+  unfolding thread_preemption_change_row threshold_change
   thread_preemption_change_owned =
       thread_found_owned _ (λ t.
       unless_owned ms k g (caller_refusal k g by Store (arg a 2) 4) _ before
       (unless_owned ms k g (refused (nat_lt (thread k t).priority (arg a 1)) thresh_error) _ before before))
 
   thread_priority_change_owned : OwnedAfter ms (thread_priority_change_row k g by a)
-  unfolding thread_priority_change_row
+  unfolding thread_priority_change_row priority_change
   thread_priority_change_owned =
       thread_found_owned _ (λ t.
       unless_owned ms k g (caller_refusal k g by Store (arg a 2) 4) _ before
       (unless_owned ms k g (refused (nat_le k.ready.levels (arg a 1)) priority_error) _ before before))
 
   thread_time_slice_change_owned : OwnedAfter ms (thread_time_slice_change_row k g by a)
-  unfolding thread_time_slice_change_row
+  unfolding thread_time_slice_change_row slice_change
   thread_time_slice_change_owned = thread_found_owned _ (λ t. unless_owned ms k g _ _ before before)
 
   thread_reset_owned : OwnedAfter ms (thread_reset_row k g by a)
