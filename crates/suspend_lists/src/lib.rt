@@ -1,7 +1,7 @@
 //! Who waits where, in order, for what and since which wait; and how many waits began and ended.
 //!
-//! A place is a kernel object or the callback queue of a module; a sleeper waits at none. What a wait
-//! that ends leaves after, and when it times out, stands elsewhere.
+//! A place is a kernel object or the callback queue of a module; a sleeper waits at none. What happens
+//! as a wait ends, and when it times out, stands elsewhere.
 #![tactic(auto)]
 
 mod laws;
