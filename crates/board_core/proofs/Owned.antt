@@ -92,7 +92,8 @@ pub fault_is_kept : Lower → FaultIsKept
 unfolding after_fault
 fault_is_kept lower w t cause world runs faults =
     let m = module_of w.kernel t in
-    let inside = started_inside w.modules m (runner_is_started lower w t world runs) in
-    (inside,
-    subst (λ (p : Parts). (module_at p.modules m).state ≡ Faulted (record { thread = t; cause = cause; pc = (thread w.kernel t).hart.pc }))
-    (sym (stepped_is w t (Faults cause) runs faults)) (ap (λ (r : Module). r.state) (get_or-set_same w.modules m _ _ inside)))
+    let inside = started_inside w.modules m (runner_is_started lower w t world runs) in (
+      inside,
+      subst (λ (p : Parts). (module_at p.modules m).state ≡ Faulted (record { thread = t; cause = cause; pc = (thread w.kernel t).hart.pc }))
+          (sym (stepped_is w t (Faults cause) runs faults)) (ap (λ (r : Module). r.state) (get_or-set_same w.modules m _ _ inside)),
+    )

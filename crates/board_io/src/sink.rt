@@ -62,8 +62,13 @@ impl Model for MemSink {
     ghost Value = { SinkInMemory };
 
     ghost view = { λ s.
-        record { written = s.written.items; room = vec_capacity s.written; fails = s.fails.items;
-            writes = s.writes; faults = s.faults } };
+        record {
+          written = s.written.items;
+          room = vec_capacity s.written;
+          fails = s.fails.items;
+          writes = s.writes;
+          faults = s.faults;
+        } };
 }
 
 impl MemSink {

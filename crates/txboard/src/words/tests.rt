@@ -39,7 +39,12 @@ impl Env for Args<'_> {
 fn words_follow_the_programs_name(rt: HostRuntime) -> Result<(), Fail> {
     let hosts = [
         // the arguments and how many they are, the words and how many they are
-        (b"txboard|hart|p1.img|1".as_slice(), 4usize, "hart|p1.img|1", 3usize),
+        (
+            b"txboard|hart|p1.img|1".as_slice(),
+            4usize,
+            "hart|p1.img|1",
+            3usize,
+        ),
         (b"txboard|hart| an image ", 3, "hart| an image ", 2),
         (b"txboard||hart|", 4, "|hart|", 3),
         (b"txboard|hart", 2, "hart", 1),
