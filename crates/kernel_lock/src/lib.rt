@@ -5,6 +5,7 @@
 //! entry goes into the lane in that call, too. Nothing here looks into the machine.
 #![tactic(auto)]
 
+mod count;
 mod lock;
 mod record;
 mod session;

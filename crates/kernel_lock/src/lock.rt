@@ -3,16 +3,21 @@
 //! Its type keeps that the interrupts of the history are what its pass got, in order, and that the
 //! closed entries of the history are what was put into the lane; so no event is made beside them.
 ghost use Rattle.std.specs.Prelude.{◌≡◌, ◌<◌, ◌↔◌, length, IsTrue, IsFalse};
+ghost use Rattle.event_log.specs.Events.{words_of};
 ghost use Rattle.event_log.specs.Log.{irq_count, step_count, with_step};
 ghost use Rattle.kernel_lock.specs.Holds.{Holds};
 ghost use Rattle.kernel_lock.specs.Turn.{after_turn, TookOneOf};
 ghost use Rattle.kernel_lock.specs.declared.turn.Turn.TheVariants.{Stepped, Idle};
 
+use crate::count::count_of;
 use crate::record::record_irq;
 use crate::session::Session;
 use crate::turn::Turn;
 use board_core::Machine;
-use event_log::{a_history_grows_by_one_event, a_history_stays_one, an_interrupt_closes_an_entry};
+use board_values::DevNo;
+use event_log::{
+    a_history_grows_by_one_event, a_history_stays_one, an_interrupt_closes_an_entry,
+};
 use irq_inbox::{CpuPass, Inbox};
 use log_lane::{Lane, PutPass};
 use std::marker::PhantomData;
@@ -89,5 +94,12 @@ impl<'a, O: Session> Core<'a, O> {
         ensures { result ≡ step_count self.now.machine.history }
     {
         self.machine.history().steps()
+    }
+
+    /// How many words of a device were taken.
+    pub fn taken(&self, d: DevNo) -> u32
+        ensures { result ≡ length (words_of d self.now.machine.history) }
+    {
+        count_of(self.machine.history(), d)
     }
 }
