@@ -15,9 +15,7 @@ use crate::session::Session;
 use crate::turn::Turn;
 use board_core::Machine;
 use board_values::DevNo;
-use event_log::{
-    a_history_grows_by_one_event, a_history_stays_one, an_interrupt_closes_an_entry,
-};
+use event_log::{a_history_grows_by_one_event, a_history_stays_one, an_interrupt_closes_an_entry};
 use irq_inbox::{CpuPass, Inbox};
 use log_lane::{Lane, PutPass};
 use std::marker::PhantomData;
