@@ -20,13 +20,14 @@ const CAPACITY: usize = 256;
 #[derive(Clone, Copy, Debug, PartialEq, Eq)]
 pub struct Full(pub u32);
 
-/// The pass of who takes, with what all devices have sent.
+/// The pass that takes, with what all devices have sent.
 #[derive(Drop)]
 pub struct Joined {
     pub cpu: CpuPass,
 }
 
-/// Up to 256 words of devices, on their way to who takes them. Contracts see which inbox it is.
+/// Up to 256 words of devices, on their way to the one that takes them. Contracts see which inbox
+/// it is.
 #[derive(Drop)]
 pub struct Inbox {
     queue: Queue,
@@ -75,8 +76,8 @@ impl Inbox {
         Ok((Inbox { queue }, CpuPass { pass }, devs))
     }
 
-    /// A device raises a word. `Full`, with the word, only if the inbox held 256 words at one
-    /// moment of the call.
+    /// A device raises a word. `Full`, with the word, where the queue was full at one moment of the
+    /// call; a pass doesn't see the words of other devices, so `full` can't say that they were there.
     pub fn raise<R: Wait>(&self, rt: &R, pass: &mut DevPass, w: u32) -> Result<(), Full>
         requires { pass.old.inbox ≡ self.now }
         ensures sent { OnOk result (pass.new.sent ≡ pass.old.sent ++ w ∷ []) }
@@ -91,8 +92,8 @@ impl Inbox {
             .map_err(|(_, w)| Full(w))
     }
 
-    /// The first word, with its device. `None` only if the inbox was empty at one moment of the
-    /// call.
+    /// Takes the first word, with its device. `None` where the queue was empty at one moment of the
+    /// call; then all that gathered passes sent was got.
     #[tactic(auto, using(crate::proofs::Steps::takes, crate::proofs::Steps::totals))]
     pub fn take<R: Wait>(&self, rt: &R, pass: &mut CpuPass) -> Option<(DevNo, u32)>
         requires { pass.old.inbox ≡ self.now }

@@ -1,4 +1,6 @@
-//! The passes: one for each device, and one for who takes the words.
+//! The passes: one for each device, and one that takes the words.
+//!
+//! A pass is never copied, so what it says that it sent or got was sent or got with it alone.
 ghost use Rattle.std.specs.Prelude.{◌≡◌, []};
 
 use crate::rule::Hold;
@@ -30,7 +32,7 @@ impl Model for DevPass {
         (p.pass.me.1 ≡ []) × (known p.pass ≡ sender p.number (known p.pass).sent) };
 }
 
-/// The pass of who takes the words. It says of which inbox it is, for how many devices that was
+/// The pass that takes the words. It says of which inbox it is, for how many devices that was
 /// made, which words were taken with it, and what the devices have sent that were gathered into it.
 #[derive(Drop)]
 pub struct CpuPass {

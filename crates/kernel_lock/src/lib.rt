@@ -6,11 +6,13 @@
 #![tactic(auto)]
 
 mod count;
+mod laws;
 mod lock;
 mod record;
 mod session;
 mod turn;
 
+pub use laws::words_are_those_of_interrupts;
 pub use lock::{Core, KernelCell};
 pub use session::Session;
 pub use turn::Turn;

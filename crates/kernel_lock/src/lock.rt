@@ -37,7 +37,8 @@ pub struct Core<'a, O: Session> {
 pub type KernelCell<'a, O> = Mutex<Core<'a, O>>;
 
 impl<'a, O: Session> Core<'a, O> {
-    /// Takes an interrupt, where the inbox gives one; else makes a step where it may; else nothing.
+    /// Takes an interrupt where the inbox gives one; else makes a step where `may_step`; else does
+    /// nothing. No clause says that it takes what the inbox has.
     pub fn turn<R: Wait>(&mut self, rt: &R, may_step: bool) -> Turn
         requires room { irq_count self.old.machine.history < self.old.machine.irqs }
         requires steps { IsTrue may_step →
@@ -94,7 +95,7 @@ impl<'a, O: Session> Core<'a, O> {
         self.machine.history().steps()
     }
 
-    /// How many words of a device were taken.
+    /// How many words of a device were taken. It looks through the whole history.
     pub fn taken(&self, d: DevNo) -> u32
         ensures { result ≡ length (words_of d self.now.machine.history) }
     {

@@ -11,7 +11,7 @@ use event_log::Entry;
 use log_lane::{Lane, PutPass};
 use std::sync::Wait;
 
-/// Puts the open entry of steps into the lane, if there is one: all entries are in it then.
+/// Puts the open entry of steps into the lane, if there is one; afterwards all entries are in it.
 fn put_open<R: Wait>(rt: &R, lane: &Lane, put: &mut PutPass, machine: &Machine)
     requires lane { put.old.lane ≡ lane.now.id }
     requires entries { put.old.entries ≡ closed machine.now.history }

@@ -1,10 +1,11 @@
-//! The name of a run: by it types say of which board, inbox and lane they are.
+//! The name of a run, by which types say of which board, inbox and lane they are.
 //!
 //! A session has no value and no call; one call of the program picks what it stands for.
 ghost use Rattle.atomic_table.specs.Seated.{TableId};
 ghost use Rattle.board_core.specs.Run.{Origin};
 ghost use Rattle.log_lane.specs.Seen.{LaneSeen};
-ghost use Rattle.kernel_lock.specs.Nothing.{no_origin, no_table, no_lane};
+ghost use Rattle.kernel_lock.specs.Nothing.{no_origin, no_lane};
+ghost use Rattle.log_lane.specs.Getter.{no_table};
 
 use std::marker::Brand;
 

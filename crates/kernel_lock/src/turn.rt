@@ -1,4 +1,6 @@
 //! What a turn of the machine was.
+//!
+//! The event itself is made by the machine.
 use board_values::DevNo;
 
 /// An interrupt of a device with a word was taken, or a step was made, or neither.

@@ -12,8 +12,8 @@ use std::marker::Model;
 use std::sync::Wait;
 use tx_types::NoMemory;
 
-/// The entries on their way from who puts them to who gets them. Contracts see which lane it is,
-/// and how many entries it has room for.
+/// Entries on their way from the one that puts them to the one that gets them. Contracts see which
+/// lane it is, and how many entries it has room for.
 #[derive(Drop)]
 pub struct Lane {
     queue: Queue,
@@ -66,7 +66,8 @@ impl Lane {
         }
     }
 
-    /// The first entry. `None` only if the lane was empty at one moment of the call.
+    /// Gets the first entry. `None` where the queue was empty at one moment of the call; the pass
+    /// doesn't see what the other one puts, so no clause says so.
     pub fn get<R: Wait>(&self, rt: &R, pass: &mut GetPass) -> Option<Entry>
         requires { (pass.old.live ≡ true) × (pass.old.lane ≡ self.now.id) }
         ensures some { IfSome result (λ e.

@@ -1,8 +1,8 @@
-//! The lane: it carries the closed entries of a history from who makes them to who writes them, in
-//! their order, each once.
+//! The lane: it carries the closed entries of a history from the kernel to the writer of the log,
+//! in their order, each once.
 //!
 //! A lane is made for as many entries as will ever be put, so putting one is never refused. Its two
-//! passes say in contracts what was put and what was got; they take no memory.
+//! passes say in contracts what was put and what was got.
 #![tactic(auto)]
 
 mod lane;

@@ -1,4 +1,6 @@
 //! The two passes of a lane: one puts entries, the other gets them.
+//!
+//! A pass is never copied, so what it says that it put or got was put or got with it alone.
 ghost use Rattle.std.specs.Prelude.{◌≡◌, false};
 
 use crate::rule::Hold;

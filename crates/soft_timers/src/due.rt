@@ -1,6 +1,6 @@
 //! What is due at a tick, in order of arming.
 //!
-//! A list has room for all timeouts and timers from the start, so that a tick takes no memory.
+//! A list has room for all timeouts and timers from the start, so a tick can't run out of memory.
 ghost use Rattle.std.specs.Prelude.{◌≡◌, ◌<◌, ◌≤◌, ◌==◌, [], length, filter, HoldsAt, IfOk, vec_capacity};
 ghost use Rattle.soft_timers.specs.Timers.{due_among};
 
@@ -51,7 +51,7 @@ impl Due {
         self.entries.len() as u16
     }
 
-    /// The one at a place in order of arming.
+    /// The entry at a place, in order of arming.
     pub(crate) fn entry(&self, i: u16) -> Armed
         requires { i < length self.now }
         ensures { HoldsAt (λ e. result ≡ e) self.now i }
@@ -59,7 +59,7 @@ impl Due {
         self.entries[usize::from(i)]
     }
 
-    /// Its number.
+    /// The number of the entry at a place.
     pub fn id(&self, i: u16) -> TimerId
         requires { i < length self.now }
         ensures { HoldsAt (λ e. result ≡ e.id) self.now i }

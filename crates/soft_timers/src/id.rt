@@ -1,4 +1,6 @@
 //! The numbers of timeouts and timers.
+//!
+//! First come the threads, then the timer objects; each number is below 512.
 use std::marker::Model;
 use tx_types::{ObjNo, ThreadNo};
 

@@ -1,4 +1,6 @@
 //! What holds of every wheel, for the layers above: each function's contract is a law.
+//!
+//! Their bodies do nothing; a function calls one where its proof needs the law.
 ghost use Rattle.soft_timers.specs.Laws.{CallsKeepTheWheel, TicksKeepTheWheel, DueAreInOrder, DueAreArmed, DisarmedIsOver, OverStaysOver, TicksLeaveTheDue, CallsAddNone, TurnsTakeOne, NoneIsRunning, RunsAfterTheTurns};
 ghost use Rattle.soft_timers.specs.Timers.{IsWheel, no_timers};
 

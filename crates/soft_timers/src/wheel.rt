@@ -46,7 +46,7 @@ impl Wheel {
         })
     }
 
-    /// How many ticks came.
+    /// How many ticks there were.
     pub fn ticks(&self) -> u64
         ensures value { result ≡ self.now.ticks }
         ensures sound { IsWheel self.now }
@@ -54,28 +54,28 @@ impl Wheel {
         self.ticks
     }
 
-    /// How often one was armed.
+    /// How many armings there were.
     pub fn armings(&self) -> u64
         ensures { result ≡ self.now.armings }
     {
         self.armings
     }
 
-    /// Whether each that is armed has at least one tick left, so that a tick may come.
+    /// Whether every armed entry has at least one tick left, so that a tick may come.
     pub fn is_running(&self) -> bool
         ensures { (result ≡ true) ↔ IsRunning self.now }
     {
         all_later(&self.entries, self.ticks)
     }
 
-    /// The number of the arming by which it is armed, where it is.
+    /// The number of the arming of `id`; none where it isn't armed.
     pub fn arming(&self, id: TimerId) -> Option<u64>
         ensures { result ≡ arming self.now id }
     {
         Some(find_armed(&self.entries, id)?.arming)
     }
 
-    /// In how many ticks it is due, where it is armed.
+    /// In how many ticks `id` is due; none where it isn't armed.
     pub fn left(&self, id: TimerId) -> Option<u32>
         ensures { result ≡ left self.now id }
     {
@@ -84,7 +84,7 @@ impl Wheel {
         Some(ticks)
     }
 
-    /// Whether one that was due is still armed by the same arming.
+    /// Whether an entry that was due is still armed by the same arming.
     pub fn still(&self, due: &Due, i: u16) -> bool
         requires { i < length due.now }
         ensures { HoldsAt (λ e. result ≡ still self.now e) due.now i }
@@ -96,7 +96,7 @@ impl Wheel {
         }
     }
 
-    /// Arms it: it is due in the given number of ticks.
+    /// Arms `id`, to be due in the given number of ticks.
     pub fn arm(&mut self, id: TimerId, ticks: u32)
         requires free { armed self.old id ≡ None }
         requires later { 0 < ticks }
@@ -112,7 +112,7 @@ impl Wheel {
         self.entries.push_reserved(entry);
     }
 
-    /// Disarms it, where it is armed.
+    /// Disarms `id`, where it is armed.
     pub fn disarm(&mut self, id: TimerId)
         ensures { self.new ≡ disarmed self.old id }
     {
@@ -131,7 +131,7 @@ impl Wheel {
     }
 }
 
-/// The armed one of a number.
+/// The armed entry of a number.
 fn find_armed(entries: &[Armed], id: TimerId) -> Option<Armed>
     ensures { result ≡ find (λ e. e.id == id) entries.now }
 {
@@ -145,7 +145,7 @@ fn all_later(entries: &[Armed], now: u64) -> bool
     entries.iter().all(|e| now < e.expiry)
 }
 
-/// Takes the one of a number out.
+/// Takes the entry of a number out.
 fn take_out(entries: &mut Vec<Armed>, id: TimerId)
     ensures items { entries.new.items ≡ without id entries.old.items }
     ensures same_room { vec_capacity entries.new ≡ vec_capacity entries.old }

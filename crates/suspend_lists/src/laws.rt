@@ -1,4 +1,6 @@
 //! What holds of every table of waits, for the layers above: each function's contract is a law.
+//!
+//! Their bodies do nothing; a function calls one where its proof needs the law.
 ghost use Rattle.suspend_lists.specs.Laws.{CallsKeepTheTable, TotalsKeepTheTable, RestoresKeepTheTable, AtOnePlace, OnceThere, ElseNowhere, IsWhole, CallsKeepItWhole, CallsAccount, HistoriesAccount, NextNumberIsNew};
 ghost use Rattle.suspend_lists.specs.Waits.{IsTable, new_table};
 

@@ -1,4 +1,5 @@
-//! Who waits where, in order, for what and since which wait; and how many waits began and ended.
+//! Who waits where, in what order and for what, with the number of each wait; and how many waits
+//! began and ended.
 //!
 //! A place is a kernel object or the callback queue of a module; a sleeper waits at none. What happens
 //! as a wait ends, and when it times out, stands elsewhere.

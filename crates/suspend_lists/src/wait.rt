@@ -1,4 +1,6 @@
 //! One wait: where, for what, and what is answered when its time runs out.
+//!
+//! What is kept of a wait never changes while it lasts.
 ghost use Rattle.std.specs.Prelude.{◌≡◌, ◌<◌, IfSome};
 ghost use Rattle.suspend_lists.specs.Wait.{place, place_count};
 
@@ -40,7 +42,7 @@ pub enum Asks {
     Send { message: Message, front: bool },
     /// An instance of a semaphore.
     Instance,
-    /// A mutex.
+    /// To own a mutex.
     Own,
     /// Event flags (ThreadX User Guide, `tx_event_flags_get`).
     Flags { want: u32, option: u32, to: u32 },
@@ -52,7 +54,7 @@ pub enum Asks {
     Callback { to: u32 },
 }
 
-/// A wait: where and for what, the answer of a timeout, and the effective priority of the thread as
+/// A wait: where and for what, the status at a timeout, and the effective priority of the thread as
 /// its wait began.
 #[derive(Clone, Debug, Drop)]
 pub struct Wait {
