@@ -1,5 +1,5 @@
 //! What a report says of a machine.
-ghost use Rattle.std.specs.Prelude.{◌≡◌, ◌<◌, All, IfOk};
+ghost use Rattle.std.specs.Prelude.{◌≡◌, IfOk};
 ghost use Rattle.board_report.specs.Printable.{IsPrintable};
 ghost use Rattle.board_core.specs.Laws.{IsWorld};
 ghost use Rattle.board_core.specs.Machine.{shown};
@@ -11,7 +11,7 @@ use crate::machine::Machine;
 use crate::rows::{device_rows, module_rows, numbers, object_rows, thread_rows};
 use crate::shows::show_rows;
 use board_file::Board;
-use board_values::{Nums, Report, Totals};
+use board_values::{Report, Totals};
 use event_log::History;
 use kernel_state::Kernel;
 use module_manager::Manager;
@@ -39,24 +39,6 @@ const NO_WAITS: Totals = Totals {
     gone: 0,
 };
 
-/// The scheduler's lists of a report.
-#[derive(Drop)]
-struct ThreadLists {
-    held: Nums,
-    ready: Nums,
-}
-
-/// The holders, and the ready threads.
-fn lists(alloc: Global, kernel: &Kernel) -> Result<ThreadLists, NoMemory>
-    ensures held { IfOk result (λ l. l.held ≡ kernel.now.ready.held) }
-    ensures ready { IfOk result (λ l. l.ready ≡ kernel.now.ready.order) }
-    ensures small { IfOk result (λ l. All (λ n. n < 256) l.held) }
-{
-    let held = numbers(alloc, &kernel.ready.held_list(alloc)?)?;
-    let ready = numbers(alloc, &kernel.ready.ready_list(alloc)?)?;
-    Ok(ThreadLists { held, ready })
-}
-
 /// The report on a board by its parts and its history.
 #[tactic(auto, unfolding(crate::specs::Report::report_of))]
 fn report(
@@ -73,15 +55,14 @@ fn report(
         ≡ report_of (shown board.now kernel.now guard.now modules.now devices.now history.now.entries)) }
     ensures printable { IfOk result IsPrintable }
 {
-    let ThreadLists { held, ready } = lists(alloc, kernel)?;
     Ok(Report {
         steps: history.steps(),
         irqs: history.irqs(),
         ticks: 0,
         clock: 0,
         running: running(kernel),
-        held,
-        ready,
+        held: numbers(alloc, &kernel.ready.held_list(alloc)?)?,
+        ready: numbers(alloc, &kernel.ready.ready_list(alloc)?)?,
         totals: NO_WAITS,
         modules: module_rows(alloc, board, modules)?,
         threads: thread_rows(alloc, kernel)?,
