@@ -1,5 +1,5 @@
 -- A step and an interrupt leave a core what it keeps. The laws of histories are given by who calls these.
-use Rattle.std.proofs.Common.{◌≡◌, ℕ, ◌+◌, ◌*◌, ◌^◌, ◌<◌, ◌≤◌, ◌↔◌, true, List, [], ◌∷◌, ◌++◌, length, sym, ap, ◌∙◌, subst, arith}
+use Rattle.std.proofs.Common.{◌≡◌, ℕ, ◌+◌, ◌*◌, ◌^◌, ◌<◌, ◌≤◌, ◌↔◌, Bool, true, false, MatchBool, refl, List, [], ◌∷◌, ◌++◌, length, sym, ap, ◌∙◌, subst, arith}
 use Rattle.std.proofs.lemmas.List.{length-append}
 use Rattle.atomic_table.specs.Seated.{TableId}
 use Rattle.board_core.specs.Machine.{Recorded}
@@ -12,6 +12,9 @@ use Rattle.event_log.specs.declared.entry.Entry.TheVariants.{Steps, Irq}
 use Rattle.irq_inbox.specs.Seen.{CpuSeen}
 use Rattle.log_lane.specs.Seen.{LaneSeen, PassSeen}
 use Rattle.kernel_lock.specs.Holds.{Holds}
+use Rattle.kernel_lock.specs.Turn.{after_turn}
+use Rattle.kernel_lock.specs.declared.turn.Turn.{Turn}
+use Rattle.kernel_lock.specs.declared.turn.Turn.TheVariants.{Stepped, Idle}
 
 -- what is said of a step
 pub record StepLaws : Type 0 where
@@ -102,3 +105,12 @@ lane_fits laws o box line m inbox pass lane put h room =
 pub same_pass : (o : Origin) (box : TableId) (line : LaneSeen) (m : Recorded) (inbox : TableId) (pass pass' : CpuSeen) (lane : LaneSeen) (put : PassSeen)
     → Holds o box line m inbox pass lane put → pass' ≡ pass → Holds o box line m inbox pass' lane put
 same_pass o box line m inbox pass pass' lane put h is = subst (λ y. Holds o box line m inbox y lane put) (sym is) h
+
+-- a step where one may be made, and else nothing, leaves a core what it keeps
+pub step_where_keeps : (laws : StepLaws) (o : Origin) (box : TableId) (line : LaneSeen) (m m' : Recorded) (inbox : TableId) (pass : CpuSeen) (lane : LaneSeen) (put : PassSeen) (may : Bool) (t : Turn)
+    → Holds o box line m inbox pass lane put → (may ≡ true → step_count m.history < m.origin.board.steps) → MatchBool may (t ≡ Stepped) (t ≡ Idle)
+    → m' ≡ record m { history = after_turn m.history t } → Holds o box line m' inbox pass lane put
+step_where_keeps laws o box line m m' inbox pass lane put true t h room is made =
+    step_keeps laws o box line m m' inbox pass lane put h (room refl) (made ∙ ap (λ y. record m { history = after_turn m.history y }) is)
+step_where_keeps laws o box line m m' inbox pass lane put false t h room is made =
+    subst (λ y. Holds o box line y inbox pass lane put) (sym (made ∙ ap (λ y. record m { history = after_turn m.history y }) is)) h

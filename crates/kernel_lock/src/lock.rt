@@ -10,7 +10,7 @@ ghost use Rattle.kernel_lock.specs.Turn.{after_turn, TookOneOf};
 ghost use Rattle.kernel_lock.specs.declared.turn.Turn.TheVariants.{Stepped, Idle};
 
 use crate::count::count_of;
-use crate::record::record_irq;
+use crate::record::{record_irq, step_where};
 use crate::session::Session;
 use crate::turn::Turn;
 use board_core::Machine;
@@ -58,11 +58,7 @@ impl<'a, O: Session> Core<'a, O> {
                 record_irq(rt, self.lane, &mut self.put, &mut self.machine, d, w);
                 Turn::Took(d, w)
             }
-            None if may_step => {
-                self.machine.step();
-                Turn::Stepped
-            }
-            None => Turn::Idle,
+            None => step_where(&mut self.machine, may_step),
         }
     }
 

@@ -1,10 +1,13 @@
-//! How an interrupt is recorded: it closes the entry of steps before it, both entries go into the
-//! lane, and the machine takes it.
+//! How an event is recorded. An interrupt closes the entry of steps before it, both entries go into
+//! the lane, and the machine takes it; a step is the machine's alone.
 //!
 //! These are functions over the parts of the core, since between two writes the parts don't agree.
-ghost use Rattle.std.specs.Prelude.{◌≡◌, ◌+◌, ◌<◌, length};
-ghost use Rattle.event_log.specs.Log.{closed, irq_count, with_irq};
+ghost use Rattle.std.specs.Prelude.{◌≡◌, ◌+◌, ◌<◌, length, IsTrue, MatchBool};
+ghost use Rattle.event_log.specs.Log.{closed, irq_count, step_count, with_irq};
+ghost use Rattle.kernel_lock.specs.Turn.{after_turn};
+ghost use Rattle.kernel_lock.specs.declared.turn.Turn.TheVariants.{Stepped, Idle};
 
+use crate::turn::Turn;
 use board_core::Machine;
 use board_values::DevNo;
 use event_log::Entry;
@@ -45,4 +48,19 @@ pub(crate) fn record_irq<R: Wait>(
     put_open(rt, lane, put, machine);
     lane.put(rt, put, Entry::Irq(d, w));
     machine.take(d, w);
+}
+
+/// Makes a step, where one may be made; else nothing.
+pub(crate) fn step_where(machine: &mut Machine, may_step: bool) -> Turn
+    requires { IsTrue may_step → step_count machine.old.history < 100000000 }
+    ensures answer { MatchBool may_step (result ≡ Stepped) (result ≡ Idle) }
+    ensures machine { machine.new
+        ≡ record machine.old { history = after_turn machine.old.history result } }
+{
+    if may_step {
+        machine.step();
+        Turn::Stepped
+    } else {
+        Turn::Idle
+    }
 }

@@ -1,4 +1,4 @@
-use Rattle.kernel_lock.proofs.Keeps.{StepLaws, IrqLaws, GotMore, step_keeps, take_keeps, same_pass, lane_fits}
+use Rattle.kernel_lock.proofs.Keeps.{StepLaws, IrqLaws, GotMore, step_where_keeps, take_keeps, same_pass, lane_fits}
 use Rattle.kernel_lock.proofs.lock.Core.turn.Goals as goal
 
 pub record_irq-requires-clause-fits : goal.record_irq-requires-clause-fits
@@ -29,4 +29,4 @@ invariant_of-self-in-None g c =
       history = c.a_history_stays_one.ensures.step;
     } in
     let kept = same_pass _ _ _ _ _ _ _ _ _ c.args.self.now.holds c.in-None.ensures.none in
-    record { holds = step_keeps laws _ _ _ _ _ _ _ _ _ kept (c.requires.steps c.if-may_step.true) c.step.ensures }
+    record { holds = step_where_keeps laws _ _ _ _ _ _ _ _ _ _ _ kept c.requires.steps c.step_where.ensures.answer c.step_where.ensures.machine }
