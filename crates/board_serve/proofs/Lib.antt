@@ -1,0 +1,5 @@
+mod Counts
+mod Ended
+mod Lines
+mod Lists
+mod Running

@@ -1,0 +1,4 @@
+pub mod Raised
+pub mod Scripts
+pub mod Got
+pub mod Served

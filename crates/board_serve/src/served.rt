@@ -1,0 +1,11 @@
+//! How a board was served.
+use irq_inbox::DevPass;
+
+/// All steps were made and all words were written, or a write failed; with both, the passes of all
+/// devices come back. Or memory ran out before anything was started or written.
+#[derive(Drop)]
+pub enum Served {
+    Done(Vec<DevPass>),
+    WriteFault(Vec<DevPass>),
+    NoMemory,
+}
