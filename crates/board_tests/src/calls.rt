@@ -346,16 +346,11 @@ fn ends(
 
 /// The call ends as it is due, and so does each call of it in which a read or a write fails.
 fn play(rt: &impl Abort, alloc: Global, call: &Call) -> Result<(), Fail> {
-    let past = (call.writes + 1, 0);
-    ends(
-        rt,
-        alloc,
-        call,
-        call.reads + 1,
-        past,
-        (call.status, call.text),
-    )?;
-    for read in 1..=call.reads {
+    let past = call.reads.saturating_add(1);
+    let write = (call.writes.saturating_add(1), 0);
+    ends(rt, alloc, call, past, write, (call.status, call.text))?;
+    for before in 0..call.reads {
+        let read = before.saturating_add(1);
         ends(rt, alloc, call, read, (1, 0), (Status::ReadFault, ""))?;
     }
     for cut in call.cuts {

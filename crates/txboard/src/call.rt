@@ -64,6 +64,3 @@ fn end<E: Eprint>(host: &E, status: Status) -> ExitCode
     tell_end(host, status);
     ExitCode::from(status.number())
 }
-
-#[cfg(test)]
-mod tests;

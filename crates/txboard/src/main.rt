@@ -7,8 +7,6 @@
 
 mod call;
 mod failure;
-#[cfg(test)]
-mod host;
 mod host_files;
 mod host_out;
 mod words;
