@@ -1,4 +1,4 @@
-//! What modules want of memory, where they lie in small free memories, and an image in its place.
+//! How much memory modules need, where they lie in small free memories, and an image in its place.
 
 use crate::samples::MODULE;
 use flat_ram::Ram;

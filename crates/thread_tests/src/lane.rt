@@ -67,7 +67,7 @@ fn entry(i: u32) -> Entry {
     }
 }
 
-/// So many entries are put, one after another, before the first is got; then all are got, and no more.
+/// A number of entries are put, one after another, before the first is got; then all are got.
 fn carries<R: Wait + Abort>(rt: &R, alloc: Global, most: u32) -> Result<(), Fail>
     requires { 0 < most }
 {
