@@ -1,4 +1,7 @@
 //! The action of a device on a word: what an interrupt of it does.
+//!
+//! Only `resume` is built: each other action answers FEATURE_NOT_ENABLED and changes nothing. The
+//! word isn't used, and what is kept of the device is written elsewhere.
 ghost use Rattle.std.specs.Prelude.{◌≡◌};
 ghost use Rattle.kernel_state.specs.Sound.{IsSound};
 ghost use Rattle.board_core.specs.Action.{acted, resumed_by_name, status_of};

@@ -1,4 +1,7 @@
 //! Guarded memory as the bus of a module's code.
+//!
+//! Each fetch, load and store asks the guard, for one module. What the guard doesn't allow, and a
+//! load or store that isn't aligned, is answered with its cause, and no byte changes.
 ghost use Rattle.std.specs.Prelude.{◌≡◌};
 ghost use Rattle.board_core.specs.Bus.{seen, StoresItsBytes};
 ghost use Rattle.region_guard.specs.Memory.{with_number};

@@ -1,4 +1,7 @@
-//! What is kept of a device: how often it was heard, and what came of it.
+//! What is kept of a device: how many of its interrupts were taken, and the status of its last
+//! action.
+//!
+//! These are plain values; the machine writes them as it takes an interrupt.
 use tx_types::Code;
 
 /// How many interrupts of a device were taken, and the status of its last action.

@@ -1,4 +1,6 @@
 //! What holds of every event, whatever the board: each function's contract is a law.
+//!
+//! Their bodies do nothing; a function calls one where its proof needs the law.
 ghost use Rattle.board_core.specs.Laws.{FrameLaw, RegionsStay, ImagesStay, OwnersStay, RunnerIsStarted, FaultIsKept, CodeIsInNoFrame, OthersDataIsInNoFrame, FaultSparesOthers, FaultKeepsBytes};
 
 use call_dispatch::laws::a_call_writes_its_result_alone;

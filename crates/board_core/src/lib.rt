@@ -1,4 +1,7 @@
 //! The machine: a board on which events are made, one after another.
+//!
+//! It makes the event that it is asked for; which event comes next is decided by its callers. It
+//! opens no file, prints nothing, and starts no thread of the host.
 #![tactic(auto)]
 
 mod action;

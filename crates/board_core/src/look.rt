@@ -1,4 +1,7 @@
 //! What a report says of a machine.
+//!
+//! The machine is read and never changed. The ticks, the clock and the counts of waits are 0, since
+//! no event is a tick or begins a wait. The lines are made in `board_report`.
 ghost use Rattle.std.specs.Prelude.{◌≡◌, IfOk};
 ghost use Rattle.board_report.specs.Printable.{IsPrintable};
 ghost use Rattle.board_core.specs.Laws.{IsWorld};

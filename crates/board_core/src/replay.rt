@@ -1,4 +1,6 @@
 //! A machine as what stands for a world: a history can be made again on it.
+//!
+//! Each event and the report are the machine's own; nothing is kept here beside the machine.
 use crate::machine::Machine;
 use board_values::{DevNo, Report};
 use event_log::{Replayer, a_history_grows_by_one_event, a_history_grows_by_steps};

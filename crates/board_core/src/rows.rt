@@ -1,4 +1,7 @@
 //! The rows of a report, one list for each kind of thing on the board.
+//!
+//! The board is read and never changed. Where memory runs out there is no list, rather than a
+//! shorter one. The rows of the shows have a file of their own.
 ghost use Rattle.std.specs.Prelude.{◌≡◌, ◌+◌, ◌<◌, ◌≤◌, ◌++◌, ◌∷◌, [], All, length, IfOk, OnOk, IfSome};
 ghost use Rattle.std.specs.Option.{option_map, option_to_list};
 ghost use Rattle.board_values.specs.declared.report.ThreadRow.{ThreadRow};

@@ -1,4 +1,7 @@
 //! A board as plain data: what its file says.
+//!
+//! The rules of the format are checked where a file is read, not here. An image is named by its
+//! path; no image is read, and no module has a place.
 use crate::lists::{BoardDevices, BoardModules, BoardShares, BoardShows, Script};
 use crate::text::PathText;
 use tx_types::{ModNo, Name};

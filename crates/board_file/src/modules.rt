@@ -1,4 +1,7 @@
 //! The modules of a board file, read in their order.
+//!
+//! No two modules have the same name, and the first wrong field ends the reading. The file of an
+//! image is only named: it is never opened here.
 ghost use Rattle.std.specs.Prelude.{◌≡◌, ◌≤◌, [], codes, length, vec_len, IfOk};
 ghost use Rattle.toml.specs.View.{array_view};
 ghost use Rattle.board_file.specs.Answer.{Reads};

@@ -1,4 +1,7 @@
 //! Reading a board file whole.
+//!
+//! The answer is the whole board, or why there is none: nothing comes back of a board with a wrong
+//! field. The bytes are given; no file is opened, and no image is read.
 ghost use Rattle.std.specs.Prelude.{◌≡◌, ◌↔◌, IfOk, IsTrue};
 ghost use Rattle.toml.specs.Errors.{IsMemory};
 ghost use Rattle.toml.specs.View.{table_view};

@@ -1,4 +1,7 @@
 //! Why a board isn't read.
+//!
+//! A failed allocation becomes `NoMemory`, and never a wrong field. The line that is printed of a
+//! refusal is made by the command line (`board_run`).
 use crate::text::Path;
 use std::alloc::{AllocError, AllocFailed};
 

@@ -1,4 +1,7 @@
 //! The shows of a board file, read in their order.
+//!
+//! A show names one of the modules that were read before it. Whether its words lie in that module's
+//! data region isn't asked here.
 ghost use Rattle.std.specs.Prelude.{◌≡◌, ◌≤◌, [], codes, length, position};
 ghost use Rattle.std.specs.Str.{bytes_eq};
 ghost use Rattle.toml.specs.View.{view, array_view};

@@ -1,4 +1,7 @@
 //! Boards and the first wrong field of each, by hand from the description of the format.
+//!
+//! Each row of a table is a piece of a file, and what reading the whole file then answers. The
+//! files are put together in memory; none is opened.
 
 use crate::{Action, Board, BoardDevice, BoardErr, BoardModule, Path, PathText, read_board};
 use std::alloc::{AllocError, Global};

@@ -1,4 +1,7 @@
 //! Text of the board file, which contracts see as its bytes.
+//!
+//! There is a type for the path of an image and one for the path of a field, so that one is never
+//! taken for the other. A text is given back as it came; nothing here looks into it.
 use std::marker::Model;
 
 /// The path of an image file, as the board file gives it.

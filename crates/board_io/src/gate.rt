@@ -1,4 +1,8 @@
-//! What may delay a device before it raises a word: it gives a test a say in the order of interrupts.
+//! What may delay a device before it raises a word, so that a test has a say in the order of
+//! interrupts.
+//!
+//! It is given the number of the device and of its word, and answers nothing: it can delay a word,
+//! but not change or drop it.
 use board_values::DevNo;
 
 /// What is asked before each word of a device.

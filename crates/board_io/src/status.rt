@@ -1,4 +1,7 @@
 //! How a command ends: the status that the process exits with.
+//!
+//! Each of the six has an exit status of its own, 0 to 5. Which one a command ends with is decided
+//! by the command line, and nothing is printed here.
 ghost use Rattle.std.specs.Prelude.{◌≡◌};
 ghost use Rattle.board_io.specs.Status.{number_of};
 

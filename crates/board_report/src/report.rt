@@ -1,4 +1,6 @@
 //! The lines of a report in order: how many there are, and the i-th.
+//!
+//! Each line is made anew when it is asked for: no text is kept, and the report isn't changed.
 ghost use Rattle.std.specs.Prelude.{◌≡◌, ◌<◌, ◌≤◌, [], Some, length};
 ghost use Rattle.std.specs.List.{slice_get};
 ghost use Rattle.board_report.specs.Printable.{IsPrintable};

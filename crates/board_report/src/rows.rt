@@ -1,4 +1,7 @@
 //! The lines of the rows, and where each stands.
+//!
+//! A module has one line, and a second where it faulted; a thread has two, and each other row one.
+//! The rows are read and never changed.
 ghost use Rattle.std.specs.Prelude.{◌≡◌, ◌+◌, ◌*◌, ◌<◌, ◌≤◌, [], Some, All, length, map};
 ghost use Rattle.std.specs.List.{flat_map, slice_get};
 ghost use Rattle.board_report.specs.Printable.{IsNumbers};

@@ -1,4 +1,7 @@
 //! An image that lies alone in RAM, as module 0: its place, and its memory.
+//!
+//! Only the place and memory of an accepted image are asked for, so there is always room in RAM. No
+//! other module is there, and no instruction is executed here.
 ghost use Rattle.std.specs.Prelude.{◌≡◌, ◌+◌, ◌≤◌, ◌<◌, ◌^◌, ◌++◌, ◌∷◌, [], length, IfOk, None, Ok, position};
 ghost use Rattle.module_loader.specs.Want.{HasSizes};
 ghost use Rattle.module_preamble.specs.Preamble.{IsAccepted};

@@ -1,4 +1,7 @@
 //! What `check` finds of a board: what each module wants of memory and where it lies, and the text.
+//!
+//! No board is booted and no instruction is executed. Nothing is written before each module has its
+//! place.
 ghost use Rattle.std.specs.Prelude.{◌≡◌, ◌≤◌, ◌<◌, length, map, IfOk};
 ghost use Rattle.std.specs.Option.{option_map};
 ghost use Rattle.board_run.specs.Boards.{IsLoaded};

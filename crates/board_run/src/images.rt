@@ -1,4 +1,6 @@
 //! The images of modules, which contracts see as lists of bytes, and their preambles.
+//!
+//! An image is read no further than its preamble, and no file is opened here.
 ghost use Rattle.std.specs.Prelude.{◌≡◌, IfOk};
 ghost use Rattle.module_preamble.specs.Preamble.{preamble, IsAccepted};
 ghost use Rattle.board_run.specs.Refused.{refused_image};

@@ -1,4 +1,6 @@
 //! What holds of every board, whatever its images: a function whose contract is the law.
+//!
+//! The body does nothing. The law is there to be read: no function calls it.
 ghost use Rattle.board_run.specs.Laws.{StopsAlike, LiesAlike};
 
 /// `check` stops exactly where the boot of the same board does, for the same cause, and else gives

@@ -1,4 +1,6 @@
 //! What holds of every log that is replayed: a function whose contract is the law.
+//!
+//! The body does nothing. The law is there to be read: no function calls it.
 ghost use Rattle.std.specs.Prelude.{◌≡◌, ℕ, List, Option, Some, Ok};
 ghost use Rattle.event_log.specs.Text.{text_of};
 ghost use Rattle.board_run.specs.Replay.{Session, session_at};

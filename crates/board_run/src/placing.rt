@@ -1,4 +1,7 @@
 //! Where modules lie in RAM that is all free.
+//!
+//! The places are those of `module_loader`; a module that finds no room is refused by its number.
+//! Nothing is read or written in RAM here.
 ghost use Rattle.std.specs.Prelude.{◌≡◌, ◌<◌, ◌≤◌, ◌^◌, length, IfOk};
 ghost use Rattle.board_run.specs.Placing.{places_in};
 ghost use Rattle.board_run.specs.Reading.{GivesHere};

@@ -1,4 +1,7 @@
 //! Files read whole, and refused where they are too large.
+//!
+//! A file that is larger than it may be is refused, never cut to size. What the bytes of a file
+//! mean is asked elsewhere.
 ghost use Rattle.std.specs.Prelude.{◌≡◌, ◌≤◌, ◌<◌, ◌^◌, length, IfOk};
 ghost use Rattle.std.specs.Option.{option_map};
 ghost use Rattle.board_io.specs.Faults.{Rose};

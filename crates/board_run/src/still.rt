@@ -1,4 +1,8 @@
 //! The top call of the commands that need no thread.
+//!
+//! A call reads its files and works out its whole result before it writes the first byte, so a call
+//! that is refused writes the line of its refusal alone. No thread is started, and no file is
+//! written.
 ghost use Rattle.std.specs.Prelude.{◌≡◌, ◌≤◌, IfSome, IfNone, map, string_bytes, MatchResult};
 ghost use Rattle.board_run.specs.Answer.{Answers, Settles, Always, Completes};
 ghost use Rattle.board_run.specs.Command.{Hart, Check, Replay, row_of};

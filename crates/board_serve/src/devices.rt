@@ -1,4 +1,7 @@
 //! All devices of a board at work: they are started, turned and waited for, one after another.
+//!
+//! Nothing is allocated for a list here: the lists that are given have the room. What one device
+//! does at its work has a file of its own.
 ghost use Rattle.std.specs.Prelude.{◌≡◌, ◌≤◌, List, [], length, vec_len, vec_capacity};
 ghost use Rattle.atomic_table.specs.Seated.{TableId};
 ghost use Rattle.board_file.specs.declared.board.BoardDevice.{BoardDevice};

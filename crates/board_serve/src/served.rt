@@ -1,4 +1,6 @@
 //! How a board was served.
+//!
+//! Where a device was started, the passes of all devices come back, whatever failed afterwards.
 use irq_inbox::DevPass;
 
 /// All steps were made and all words were written, or a write failed; with both, the passes of all

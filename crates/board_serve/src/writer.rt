@@ -1,4 +1,7 @@
 //! What the caller gets from the lane: each closed entry is counted, and its line is written.
+//!
+//! Entries are written in the order of the lane, each as one line with one write, and none is got
+//! after a failed write. Nothing here waits for an entry to be put.
 ghost use Rattle.std.specs.Prelude.{◌≡◌, ◌≤◌, true, List, [], ◌∷◌, ◌++◌, length, ◌↔◌, IsTrue};
 ghost use Rattle.event_log.specs.Text.{line_of};
 ghost use Rattle.event_log.specs.declared.entry.Entry.{Entry};

@@ -1,4 +1,6 @@
 //! The line of each refusal, where no file of `tests/cli.sh` brings it about.
+//!
+//! A refusal is asked for its line directly: no file is read, and no command is run.
 use board_file::Path;
 use board_run::Refusal;
 use module_preamble::PreErr;

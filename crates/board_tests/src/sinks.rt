@@ -1,4 +1,6 @@
 //! Sinks, written through the trait: pieces whole, prefixes of the pieces whose writes are to fail.
+//!
+//! The sinks are values in memory: nothing is written to the host.
 use board_run::{MemSink, Sink, SureSink, WriteErr};
 use std::test::Fail;
 

@@ -1,4 +1,7 @@
 //! The number of a device, as a type that holds its range.
+//!
+//! It is below 16, so no user of it needs to check that. Whether a board has such a device isn't
+//! known here.
 use std::marker::Model;
 
 /// The number of a device, 0 to 15.

@@ -1,4 +1,7 @@
 //! Pointers, and why they are refused.
+//!
+//! The regions are asked whether they allow a range: no byte of it is read or written here. What a
+//! refused service answers and changes is the service's own.
 ghost use Rattle.std.specs.Prelude.{◌≡◌};
 ghost use Rattle.call_arguments.specs.Pointers.{pointer_refusal};
 

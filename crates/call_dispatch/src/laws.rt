@@ -1,4 +1,6 @@
 //! What holds of every call, whatever it asks for: each function's contract is a law.
+//!
+//! Their bodies do nothing; a function calls one where its proof needs the law.
 ghost use Rattle.call_dispatch.specs.Caller.{CallChangesA0Alone};
 ghost use Rattle.call_dispatch.specs.Laws.{NumberNamesItsService, ServiceHasItsNumber, CallWritesItsResultAlone, RefusalChangesNothing, RefusedCallChangesA0Alone, NoRowChangesA0Alone};
 

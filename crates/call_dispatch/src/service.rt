@@ -1,4 +1,7 @@
 //! The services and their numbers.
+//!
+//! A number has one service or none. What a service does, and which registers it reads, isn't said
+//! here.
 ghost use Rattle.std.specs.Prelude.{◌≡◌};
 ghost use Rattle.call_dispatch.specs.Service.{service_of};
 

@@ -1,4 +1,6 @@
 //! What holds of every log: each function's contract is a law.
+//!
+//! Their bodies do nothing; a function calls one where its proof needs the law.
 ghost use Rattle.std.specs.Prelude.{◌≡◌, ℕ, ◌+◌, ◌*◌, ◌^◌, ◌<◌, ◌≤◌, ◌↔◌, List, [], ◌∷◌, ◌++◌, codes, length, map, replicate, true, Ok};
 ghost use Rattle.event_log.specs.Events.{Step, Irq, events_of, interrupts, words_in, words_of};
 ghost use Rattle.event_log.specs.Log.{IsHistory, step_count, irq_count, parted, closed, unclosed, with_step, with_steps, with_irq};

@@ -1,4 +1,7 @@
 //! The plainest replayer: its world is the list of the events that were made on it.
+//!
+//! There is no board: an event changes no module, thread or memory, and the report has the numbers
+//! of steps and interrupts, and is otherwise empty.
 ghost use Rattle.std.specs.Prelude.{◌≡◌, ◌≤◌, ◌∷◌, ◌++◌, [], List, Ok, IfOk};
 ghost use Rattle.event_log.specs.Events.{Event, events_of};
 ghost use Rattle.event_log.specs.Plain.{counts_of};

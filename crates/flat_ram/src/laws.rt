@@ -1,4 +1,6 @@
 //! What holds of every write, for the layers above: each function's contract is a law.
+//!
+//! Their bodies do nothing; a function calls one where its proof needs the law.
 ghost use Rattle.flat_ram.specs.Laws.{LengthStays, OthersStay, RangeIsWritten, NumbersStay, WidthIsLength, LowestFirst, SameBytesSameNumber, ReadsBack};
 
 /// A write changes its range alone.

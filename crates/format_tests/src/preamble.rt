@@ -1,4 +1,7 @@
 //! Images made by hand from one accepted module, each with a word or two changed, or cut or grown.
+//!
+//! Each row has the refusal of the first rule that its image breaks, or none. No image is placed or
+//! executed.
 
 use byteorder::{ByteOrder, LittleEndian};
 use module_preamble::PreErr::{

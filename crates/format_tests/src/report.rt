@@ -1,4 +1,7 @@
 //! Whole reports, each line worked by hand.
+//!
+//! The reports are put together from rows that are written out here: no board is booted, and no
+//! event is made.
 ghost use Rattle.std.specs.Prelude.{◌≡◌, ◌≤◌, All, IsTrue, length};
 ghost use Rattle.board_report.specs.Printable.{IsNumbers, IsPrintable};
 

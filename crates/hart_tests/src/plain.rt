@@ -1,4 +1,7 @@
 //! A plain bus: twelve bytes from an address on, for any use.
+//!
+//! Each of the bytes may be fetched, loaded and stored. What lies outside of them, and a load or
+//! store that isn't aligned, is answered with its cause, and then nothing changes.
 ghost use Rattle.std.specs.Prelude.{◌≡◌, ℕ, ◌+◌, ◌-◌, ◌≤◌, ◌&&◌, nat_le, length, map, slice_index, if◌then◌else◌};
 ghost use Rattle.std.specs.List.{range_with_len};
 ghost use Rattle.machine_words.specs.Number.{IsWidth, number_from, after_store as bytes_after};

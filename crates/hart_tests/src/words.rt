@@ -1,4 +1,8 @@
-//! Words worked by hand from the listings and field positions of the RISC-V Unprivileged ISA Manual.
+//! Words worked by hand from the listings and field positions of the RISC-V Unprivileged ISA
+//! Manual.
+//!
+//! Each word is decoded and encoded again, and words in no row of the table have to be refused. No
+//! instruction is executed here.
 
 use rv_decode::{Instr, decode, encode};
 use std::process::Abort;

@@ -1,4 +1,6 @@
 //! How many words of a device are in a history.
+//!
+//! The history is read and never changed, and what the words are isn't looked at.
 ghost use Rattle.std.specs.Prelude.{◌≡◌, ◌≤◌, length};
 ghost use Rattle.event_log.specs.Events.{words_in, words_of};
 

@@ -1,4 +1,6 @@
 //! The arguments of a service and its answer.
+//!
+//! These are plain values. A service answers; the caller's a0 is written by `call_dispatch`.
 use tx_types::Code;
 
 /// The registers a0 to a6 of the caller.

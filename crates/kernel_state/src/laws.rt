@@ -1,4 +1,6 @@
 //! How a kernel stays sound, for the services: each function's contract is a law.
+//!
+//! Their bodies do nothing; a function calls one where its proof needs the law.
 ghost use Rattle.kernel_state.specs.Scheduling.{ReadyChangesOne, UnreadyChangesOne, YieldChangesNone, ThresholdChangesOne, PriorityChangesOne};
 ghost use Rattle.kernel_state.specs.Laws.{OneThreadChanges, OneHartChanges, OneSlotChanges, OneThreadIsMade, OneThreadIsRemoved, RunningIsReady, ReadyIsThread};
 

@@ -1,4 +1,8 @@
 //! The kernel's state, and what services answer.
+//!
+//! It has the object slots, the threads, the scheduler and where each module's threads begin, with
+//! what has to hold of them together. What a service does is left to other crates, and the memory
+//! of modules is no part of it.
 #![tactic(auto)]
 
 mod answer;

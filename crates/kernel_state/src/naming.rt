@@ -1,4 +1,6 @@
 //! The tests that services share: what a reference names, and why a pointer or a delete is refused.
+//!
+//! Nothing is changed here: a test answers an object, or the status with which the service refuses.
 ghost use Rattle.std.specs.Prelude.{◌≡◌, IfSome, true};
 ghost use Rattle.object_grants.specs.Slot.{is_in, is_kind};
 ghost use Rattle.object_grants.specs.Table.{slot};

@@ -1,4 +1,7 @@
 //! What a report says of an object that isn't a thread.
+//!
+//! The kernel is read and never changed. The three numbers of an object are 0 and none waits for
+//! it, since such objects have no services of their own.
 ghost use Rattle.std.specs.Prelude.{◌≡◌, IfOk};
 ghost use Rattle.kernel_state.specs.Rows.{has_object, object_row, row_of_slot};
 

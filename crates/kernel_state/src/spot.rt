@@ -1,4 +1,7 @@
 //! Where the threads of each module begin.
+//!
+//! There is an entry for each of the 16 module numbers, whether there is such a module or not. The
+//! addresses are only kept: nothing here checks them or uses them.
 use std::alloc::Global;
 use std::marker::Model;
 use tx_types::{ModNo, NoMemory, ThreadNo};

@@ -1,4 +1,6 @@
 //! What the states of a thread have in common.
+//!
+//! A state is only looked at: which changes of state may be made is left to the services.
 ghost use Rattle.std.specs.Prelude.{◌≡◌};
 ghost use Rattle.kernel_state.specs.Thread.{is_over, is_waiting};
 

@@ -1,4 +1,7 @@
 //! Threads: their registers, what the user asked for, and what is left of a time slice.
+//!
+//! The priority and the threshold in effect are the scheduler's, and aren't kept here. A thread is
+//! made suspended; no function here starts or changes one.
 use rv_core::Hart;
 use tx_types::{ModNo, Prio, State, Thresh};
 

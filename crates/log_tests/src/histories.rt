@@ -1,4 +1,7 @@
 //! Histories that grow by steps and interrupts, and are made again on a plain replayer.
+//!
+//! A history of more than a million steps is only compared with its text, and isn't made again. No
+//! board is booted.
 use crate::lines::after_lines;
 use board_values::DevNo;
 use event_log::{Entry, History, MOST_STEPS, PlainReplayer, Replayer, replay};

@@ -1,4 +1,6 @@
 //! The lines of entries, at the limits of their digits, and texts made of them.
+//!
+//! Only the printing of a line is tested here; the reading is tested with the logs.
 use board_values::DevNo;
 use event_log::{Entry, History, entry_line};
 use std::process::Abort;

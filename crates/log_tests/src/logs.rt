@@ -1,4 +1,6 @@
 //! Logs that are read and come back, and the first bad line of those that break a rule.
+//!
+//! A log is a text in memory: no file is opened, and no event is made.
 use crate::lines::after_lines;
 use event_log::{LogErr, read_log};
 use std::alloc::{AllocError, Global};

@@ -1,4 +1,7 @@
 //! Arguments at the edges of one module's code and data.
+//!
+//! Pointers, names and words are asked for directly: no service is called, and there are no
+//! threads.
 
 use crate::samples::{CODE, DATA, memory};
 use call_arguments::{name_at, pointer_refusal, put_word, put_words, word_at};

@@ -1,4 +1,7 @@
 //! Who may use what of one module's code, data and share; what is stored there; and full memory.
+//!
+//! The guard is asked directly, for a module's number: there are no threads, and no instruction is
+//! executed.
 
 use crate::samples::{CODE, DATA, SHARE, add, memory};
 use region_guard::Access::{Fetch, Load, Store};

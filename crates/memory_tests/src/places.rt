@@ -1,4 +1,6 @@
 //! How much memory modules need, where they lie in small free memories, and an image in its place.
+//!
+//! Places are addresses: only the test of an image writes to RAM, and no module is started.
 
 use crate::samples::MODULE;
 use flat_ram::Ram;

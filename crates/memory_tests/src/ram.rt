@@ -1,4 +1,6 @@
 //! One short history of a small RAM, worked by hand.
+//!
+//! There are no regions: who may use RAM is tested with the guard.
 
 use flat_ram::Ram;
 use std::test::Fail;

@@ -1,4 +1,7 @@
-//! Regions of module 0 in 4,096 bytes of RAM, the memory that has them, and the preamble of a module.
+//! Regions of module 0 in 4,096 bytes of RAM, the memory that has them, and the preamble of a
+//! module.
+//!
+//! There is no test here: the tests of this crate share these values.
 
 use flat_ram::Ram;
 use module_preamble::Preamble;

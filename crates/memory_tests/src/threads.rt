@@ -1,4 +1,6 @@
 //! The registers with which a module's threads begin.
+//!
+//! Registers are compared, all of them; no thread is made, and no instruction is executed.
 
 use crate::samples::MODULE;
 use module_loader::{Placed, opening};

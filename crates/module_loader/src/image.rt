@@ -1,4 +1,7 @@
 //! Images that are copied into RAM.
+//!
+//! The bytes of the image are all that is written, and the rest of RAM stays as it is. The image
+//! isn't looked into, and where it goes is decided before.
 ghost use Rattle.std.specs.Prelude.{◌≡◌, ℕ, ◌-◌, length, slice_index};
 ghost use Rattle.flat_ram.specs.Laws.{IsOutside};
 ghost use Rattle.module_loader.specs.Image.{loaded, IsInRam, ram_base};

@@ -1,4 +1,7 @@
 //! The registers with which a module's threads begin, at the module's shell entry.
+//!
+//! Besides pc, only sp, gp and a0 are set, and all other registers are 0. No thread is made here,
+//! and no memory is read or written.
 ghost use Rattle.std.specs.Prelude.{◌≡◌, true};
 ghost use Rattle.module_preamble.specs.Words.{has_callback};
 ghost use Rattle.module_loader.specs.Opening.{opening, stack_top, LiesAt, Begins};

@@ -1,4 +1,6 @@
 //! What a halt and a start leave alone, for the layers above: each function's contract is a law.
+//!
+//! Their bodies do nothing; a function calls one where its proof needs the law.
 ghost use Rattle.module_manager.specs.Laws.{HaltEndsCallback, HaltEndsGrants, HaltEndsSlots, HaltKeepsSound, HaltSparesSlots, HaltSparesThreads, StartKeepsRegions, StartWritesItsData};
 
 use kernel_state::laws::a_kernel_stays_sound;

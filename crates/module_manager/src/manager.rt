@@ -1,4 +1,7 @@
 //! The table of modules, and the calls that change their states.
+//!
+//! No call adds or removes a module, or changes a preamble or a place. A started or faulted module
+//! is never started again; no call stops one.
 ghost use Rattle.std.specs.Prelude.{◌≡◌, ◌<◌, ◌≤◌, true, length, All, IfOk, map};
 ghost use Rattle.std.specs.Option.{option_map};
 ghost use Rattle.module_preamble.specs.Words.{has_callback};

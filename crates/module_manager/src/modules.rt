@@ -1,4 +1,6 @@
 //! One module: what its image says, where it lies, and its state.
+//!
+//! These are plain values and what can be read of a state; no state is changed here.
 ghost use Rattle.std.specs.Prelude.{◌≡◌};
 ghost use Rattle.module_manager.specs.Modules.{module_state_number, may_start, fault_in};
 

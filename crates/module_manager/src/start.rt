@@ -1,4 +1,7 @@
 //! The start of a module: its data is zeroed, and its threads are made in the lowest usable slots.
+//!
+//! Whether there are enough slots is asked before anything changes, and what comes then can't fail.
+//! No byte outside of the data region is written, and no instruction is executed.
 ghost use Rattle.std.specs.Prelude.{◌≡◌, ◌≢◌, ◌<◌, ◌≤◌, ◌+◌, ℕ, true, All, IfSome};
 ghost use Rattle.module_preamble.specs.Words.{has_callback};
 ghost use Rattle.module_loader.specs.Want.{want_of};

@@ -1,4 +1,7 @@
 //! Why an image is refused: the rule that it breaks, with the number that breaks it.
+//!
+//! It has the name and the numbers for a printed line; the line is made elsewhere. No image is read
+//! here.
 
 ghost use Rattle.std.specs.Prelude.{◌≡◌};
 ghost use Rattle.module_preamble.specs.Refusal.{name_of, number_of, word_of};

@@ -1,4 +1,6 @@
 //! What holds of every table of slots, for the layers above: each function's contract is a law.
+//!
+//! Their bodies do nothing; a function calls one where its proof needs the law.
 ghost use Rattle.object_grants.specs.Laws.{CallsKeepTheTable, GenerationsNeverFall, FreeEndsReferences, DeadStaysDead, DeadFindsNothing, ReferenceDiesWithItsSlot};
 
 /// Once a slot is freed, and whatever is done after, a reference to what it held finds nothing any

@@ -1,4 +1,7 @@
 //! Histories of a table: what each call answers, and what can be found after it.
+//!
+//! Modules and objects are numbers: there is no kernel and no memory of a module. A step that may
+//! not be made, or is answered otherwise, ends its history.
 
 use object_grants::{LAST_GENERATION, Objects, Slot, SlotState};
 use std::test::Fail;

@@ -1,4 +1,7 @@
-//! What holds of every use of guarded memory, for the layers above: each function's contract is a law.
+//! What holds of every use of guarded memory, for the layers above: each function's contract is a
+//! law.
+//!
+//! Their bodies do nothing; a function calls one where its proof needs the law.
 ghost use Rattle.region_guard.specs.Laws.{UsedIsInRam, PartsMayBeUsed, BytesOutsideStay, WrittenBytesStand, NumbersOutsideStay, StoreChangesItsBytes, StoreIsReadBack, RuleStays, SoundnessStays};
 
 use flat_ram::{a_number_lies_lowest_byte_first, a_write_changes_its_range_alone};

@@ -1,4 +1,7 @@
 //! Regions: ranges of addresses with the rights that they give, and to whom.
+//!
+//! A region is judged by itself: which regions there are isn't known here, and no memory is read or
+//! written.
 ghost use Rattle.std.specs.Prelude.{◌≡◌, ◌+◌, ◌^◌, ◌<◌, ◌≤◌};
 ghost use Rattle.region_guard.specs.Region.{allows, gives, is_for, meets};
 

@@ -1,4 +1,7 @@
 //! What a hart reaches memory through.
+//!
+//! The trait says what a bus answers, in contracts. What memory there is, and who may use it, is
+//! left to the types that implement it; a store that is refused changes nothing.
 ghost use Rattle.std.specs.Prelude.{◌≡◌, ◌%◌, ℕ, if◌then◌else◌, is_ok, OnOk};
 ghost use Rattle.machine_words.specs.Number.{IsWidth};
 ghost use Rattle.rv_core.specs.Cause.{cause_number};

@@ -1,4 +1,7 @@
 //! The step of one instruction.
+//!
+//! A fault changes neither the hart nor the bus, and ECALL changes pc alone. What is done about a
+//! call or a fault is left to the layers above.
 ghost use Rattle.std.specs.Prelude.{◌≡◌, ◌%◌, ◌^◌, ◌<◌};
 ghost use Rattle.machine_words.specs.Bits.{signed, word_of};
 ghost use Rattle.rv_decode.specs.WellFormed.{IsWellFormed};

@@ -1,4 +1,7 @@
 //! One RV32 hart: its registers, the bus that it fetches from, and the step of one instruction.
+//!
+//! A hart has x0 to x31 and pc, and no CSRs, privileged modes or memory of its own: it fetches,
+//! loads and stores through its bus. What an ECALL asks for is answered elsewhere.
 #![tactic(auto)]
 
 mod arithmetic;

@@ -1,4 +1,7 @@
 //! From an instruction to its word: the row's codes, and one function a format.
+//!
+//! The contracts ask for fields that the formats can hold, so no bit of a field is lost. No word is
+//! decoded here.
 
 ghost use Rattle.std.specs.Prelude.{◌≡◌, ℕ, ◌^◌, ◌<◌, Some};
 ghost use Rattle.rv_decode.specs.Decode.{decoded};

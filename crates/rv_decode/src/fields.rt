@@ -1,4 +1,7 @@
 //! The fields and immediates of a word, read as the instruction formats place them.
+//!
+//! Each word has all these fields: which of them its instruction uses is asked elsewhere, and no
+//! word is refused here.
 
 ghost use Rattle.std.specs.Prelude.{◌≡◌, ◌^◌, ◌<◌, ◌≤◌};
 ghost use Rattle.machine_words.specs.Bits.{signed};

@@ -1,4 +1,7 @@
 //! Sequences of moves worked by hand: who runs after each, and who is held.
+//!
+//! Threads are numbers with a priority and a threshold; there is no kernel, and no instruction is
+//! executed. A move that may not be made fails its sequence.
 
 use ready_maps::Ready;
 use std::alloc::Global;

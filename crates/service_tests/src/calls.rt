@@ -1,4 +1,7 @@
 //! The number of a call: those that name no service.
+//!
+//! Such a call changes the caller's a0 and nothing else that is looked at here: other registers, a
+//! word of memory, and who runs.
 
 use crate::names::FEATURE_NOT_ENABLED;
 use crate::pair::{DATA, play};

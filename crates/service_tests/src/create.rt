@@ -1,4 +1,7 @@
 //! Threads are created: each refusal in its order, and what a created thread is.
+//!
+//! What is created is read from the kernel; no instruction is executed, so no thread uses its
+//! stack.
 
 use crate::names::{
     INVALID_MEMORY, OBJECT_ALLOCATE, PRIORITY_ERROR, PTR_ERROR, SIZE_ERROR, START_ERROR, SUCCESS,

@@ -1,4 +1,7 @@
-//! What a report reads of a kernel, in ample memory: the row of an object, the ready threads, the holders.
+//! What a report reads of a kernel, in ample memory: the row of an object, the ready threads, the
+//! holders.
+//!
+//! The kernel is asked directly: no report is printed, and no allocation is made to fail.
 
 use crate::names::{
     OBJECT_ALLOCATE, SUCCESS, THREAD_CREATE, THREAD_PREEMPTION_CHANGE, THREAD_PRIORITY_CHANGE,

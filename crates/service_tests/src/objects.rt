@@ -1,4 +1,7 @@
 //! Object slots are allocated, freed and found by name.
+//!
+//! The objects that are found are threads; slots for other kinds are allocated, and no object is
+//! created in them.
 
 use crate::names::{
     CALLER_ERROR, INVALID_MEMORY, NO_INSTANCE, NO_MEMORY, OBJECT_ALLOCATE, OBJECT_DEALLOCATE,

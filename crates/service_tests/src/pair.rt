@@ -1,4 +1,7 @@
 //! Two modules that have a ready thread each.
+//!
+//! There is no test here: tests of services begin with this board. No image is loaded, and no
+//! instruction is executed.
 
 use crate::board::{Area, Board, Running};
 use crate::steps::{Step, play as play_on};

@@ -1,4 +1,6 @@
 //! Threads are suspended, resumed, ended, reset and deleted.
+//!
+//! The one wait is a sleep, and no tick comes to end it.
 
 use crate::names::{
     CALLER_ERROR, DELETE_ERROR, NOT_DONE, OBJECT_ALLOCATE, OBJECT_DEALLOCATE, OBJECT_POINTER_GET,

@@ -1,4 +1,7 @@
 //! Steps: what happens on a board, and what it then shows.
+//!
+//! There is no test here. A step that can't be taken, or that shows something else than it says,
+//! fails the test that plays it.
 
 use crate::board::Board;
 use crate::names::{OBJECT_ALLOCATE, SUCCESS, THREAD_CREATE, THREAD_IDENTIFY};

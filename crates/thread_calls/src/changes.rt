@@ -1,4 +1,7 @@
 //! The changes that thread services share: a thread is started, suspended, ended, reset.
+//!
+//! Arguments were checked before: these functions take the number of a thread. None of them writes
+//! to a module's memory.
 ghost use Rattle.std.specs.Prelude.{◌≡◌, ◌⊎◌, true, false};
 ghost use Rattle.tx_types.specs.declared.state.State.TheVariants.{Completed, Terminated, Suspended};
 ghost use Rattle.kernel_state.specs.Kernel.{thread, is_thread};

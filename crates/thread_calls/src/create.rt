@@ -1,4 +1,7 @@
 //! The service that creates a thread (ThreadX User Guide, `tx_thread_create`).
+//!
+//! A refused call changes nothing. The module's memory is only read: the stack of the new thread is
+//! checked, and never written.
 ghost use Rattle.std.specs.Prelude.{◌≡◌, ◌≢◌, ◌<◌, ◌≤◌, All, IfNone, None, Some, true};
 ghost use Rattle.object_grants.specs.Slot.{is_in, is_kind};
 ghost use Rattle.object_grants.specs.Table.{slot};

@@ -1,4 +1,6 @@
 //! Each change that a service makes keeps a kernel sound: each function's contract is a law.
+//!
+//! Their bodies do nothing; a function calls one where its proof needs the law.
 ghost use Rattle.thread_calls.specs.Laws.{StartKeepsSound, SuspendKeepsSound, EndKeepsSound, ResetKeepsSound, LiftKeepsSound, WaitKeepsSound, ThresholdKeepsSound, PriorityKeepsSound, SliceKeepsSound, YieldKeepsSound, AllocateKeepsSound, DeallocateKeepsSound, GrantKeepsSound};
 
 use kernel_state::laws::{a_kernel_stays_sound, a_move_leaves_others_alone};

@@ -1,4 +1,7 @@
 //! The services that read and change a thread's numbers (ThreadX User Guide, "Thread Services").
+//!
+//! A refused call changes nothing. What is written to a module's memory is the old number, or the
+//! eight words of the thread, and only where the caller may store them.
 ghost use Rattle.std.specs.Prelude.{◌≡◌, ◌≤◌, ◌<◌, Some, true};
 ghost use Rattle.region_guard.specs.Memory.{may};
 ghost use Rattle.kernel_state.specs.Kernel.{thread, is_thread, module_of};

@@ -1,4 +1,7 @@
 //! The services on object slots (ThreadX Modules User Guide, "Module APIs").
+//!
+//! A refused call changes nothing, and a reference is written only where the caller may store it.
+//! What makes a slot an object, and what removes it, is left to the services of its kind.
 ghost use Rattle.std.specs.Prelude.{◌≡◌, Some, true};
 ghost use Rattle.region_guard.specs.Memory.{may};
 ghost use Rattle.object_grants.specs.Slot.{is_in};

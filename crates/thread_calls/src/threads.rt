@@ -1,4 +1,7 @@
 //! The services that start, suspend and end threads (ThreadX User Guide, "Thread Services").
+//!
+//! A refused call changes nothing, and none of these services reads or writes a module's memory.
+//! Creating a thread and changing its numbers have files of their own.
 ghost use Rattle.std.specs.Prelude.{◌≡◌, Some, true};
 ghost use Rattle.kernel_state.specs.Sound.{IsSound};
 ghost use Rattle.thread_calls.specs.ThreadRows.{thread_delete_row, thread_terminate_row, thread_suspend_row, thread_resume_row, thread_relinquish_row, thread_identify_row, thread_reset_row, thread_complete_row};

@@ -1,4 +1,6 @@
 //! An inbox that fills up, and sixteen devices that raise by turns, on one thread.
+//!
+//! No second thread is started, so words that are raised at the same time aren't tested here.
 ghost use Rattle.std.specs.Prelude.{◌≡◌, ℕ, ◌<◌, length, IfOk};
 ghost use Rattle.irq_inbox.specs.Seen.{AreAllOf};
 

@@ -1,4 +1,6 @@
 //! Lanes of the least and of the greatest number of entries, on one thread.
+//!
+//! No second thread is started: all entries are put before the first is got.
 ghost use Rattle.std.specs.Prelude.{◌≡◌, ◌+◌, ◌<◌, length, true};
 
 use board_values::DevNo;

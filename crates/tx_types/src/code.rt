@@ -1,4 +1,7 @@
 //! Status codes.
+//!
+//! Each number below 256 is a code, whether it has a name here or not. Which service answers which
+//! code isn't said here.
 use std::marker::Model;
 
 /// The status that a service answers, by the numbers of the ThreadX API (`tx_api.h`).

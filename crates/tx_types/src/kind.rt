@@ -1,4 +1,7 @@
 //! The kinds of kernel objects.
+//!
+//! A kind has a number, 1 to 8, and no other number is a kind. What can be done with an object of a
+//! kind isn't said here.
 ghost use Rattle.std.specs.Prelude.{◌≡◌};
 ghost use Rattle.tx_types.specs.Kind.{kind_number, kind_of};
 

@@ -1,4 +1,6 @@
 //! Plain values that every layer of the board shares.
+//!
+//! They have no rules of the kernel in them. A type with a range never holds a value outside of it.
 #![tactic(auto)]
 
 mod code;

@@ -1,4 +1,7 @@
 //! Names of kernel objects.
+//!
+//! A name has room for its bytes in itself, so making one can't run out of memory. It may have any
+//! bytes; the zero that ends a name in a module's memory isn't known here.
 ghost use Rattle.std.specs.Prelude.{◌≡◌, ◌≤◌, ◌<◌, ◌+◌, ◌∷◌, ◌++◌, [], length};
 ghost use Rattle.std.specs.Str.{bytes_eq};
 

@@ -1,4 +1,6 @@
 //! Out of memory, where a call has no other error.
+//!
+//! It doesn't say what there was no memory for, nor how much was asked for.
 use std::alloc::AllocError;
 
 /// There is no memory for a value.

@@ -1,4 +1,7 @@
 //! Numbers of the board's parts, as types that hold their range.
+//!
+//! A number is never out of its range. Whether a board has such a module, object or thread isn't
+//! known here.
 use std::marker::Model;
 
 /// The number of a module, 0 to 15.

@@ -1,4 +1,7 @@
 //! References, by which a module names a kernel object.
+//!
+//! Each word is a reference. Whether it names an object that is still there, and who may use that,
+//! is asked of the table of slots, so a made-up reference gives no rights here.
 use crate::numbers::ObjNo;
 use std::marker::Model;
 

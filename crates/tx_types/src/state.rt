@@ -1,4 +1,7 @@
 //! The states of a thread.
+//!
+//! Each state has the number of the ThreadX API, and no number is read as a state. Which changes of
+//! state may be made isn't said here.
 ghost use Rattle.std.specs.Prelude.{◌≡◌};
 ghost use Rattle.tx_types.specs.State.{state_number};
 

@@ -1,4 +1,7 @@
-//! The numbers of kinds and states, a reference and its parts, names and messages, each worked by hand.
+//! The numbers of kinds and states, a reference and its parts, names and messages, each worked by
+//! hand.
+//!
+//! Status codes, numbers with a range, waits and printed lines have no tests here.
 
 use crate::{Kind, Message, Name, ObjNo, ObjRef, State};
 use std::test::Fail;

@@ -1,4 +1,7 @@
 //! What is known of waits everywhere: their numbers, how they end, and how many there were.
+//!
+//! These are plain values. Who waits, where and for what is kept in `suspend_lists`, and nothing is
+//! counted here.
 use std::marker::Model;
 
 /// The number of a wait, counted from 0 in the order in which waits began.

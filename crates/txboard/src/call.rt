@@ -1,4 +1,7 @@
 //! A call of the program over a host's values: the exit status is what `board_still` answers.
+//!
+//! The text and the files go through the sink and the files that are given; besides these, only
+//! what failed is printed, on standard error.
 ghost use Rattle.std.specs.Prelude.{◌≡◌, ◌≤◌, IfErr, IfNone, IfOk, IfSome, map, string_bytes};
 ghost use Rattle.std.specs.Process.{exit_status};
 ghost use Rattle.board_io.specs.Faults.{Rose};

@@ -1,4 +1,7 @@
 //! The words of the command line, as the host gives them.
+//!
+//! The program's name isn't among them, and isn't looked at. Where a word isn't text, there are no
+//! words at all. What the words ask for isn't read here.
 ghost use Rattle.std.specs.Prelude.{◌≡◌, IfErr};
 
 use board_run::Status;

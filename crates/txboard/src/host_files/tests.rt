@@ -1,4 +1,7 @@
 //! Readers that give few bytes a turn, end or fail, and files of the host that are there or aren't.
+//!
+//! One file is written to the host's folder for temporary files, and removed at the end; no other
+//! file is written.
 use super::{HostFiles, read_front};
 use board_run::{Files, ReadErr};
 use std::io::{self, ErrorKind, Read};

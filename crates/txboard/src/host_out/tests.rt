@@ -1,4 +1,6 @@
 //! Writers that take few bytes a turn and then fail or take nothing more.
+//!
+//! What they take is kept in memory; nothing is written to the host.
 use super::HostOut;
 use board_run::{Sink, WriteErr};
 use std::io::{self, ErrorKind, Write};

@@ -1,4 +1,6 @@
 //! The words of a host's arguments: a first, a last and none, and one that isn't text.
+//!
+//! The host is a list of arguments in memory: the arguments of the test program aren't read.
 use super::words_of;
 use std::env::FillError;
 use std::rt::Env;
