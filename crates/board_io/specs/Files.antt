@@ -8,8 +8,8 @@ use Rattle.board_io.specs.declared.files.ReadErr.TheVariants.{Failed, Missing, N
 use Rattle.board_io.specs.Faults.{risen}
 
 -- the file is held, and these are the first max + 1 of its bytes, or all of them where there are fewer
-abbrev pub IsFrontOf : Option (List ℕ) → ℕ → List ℕ → Type 0
-IsFrontOf file max bytes = IsSomeAnd file (λ held. bytes ≡ take (max + 1) held)
+abbrev pub IsPrefixOf : Option (List ℕ) → ℕ → List ℕ → Type 0
+IsPrefixOf file max bytes = IsSomeAnd file (λ held. bytes ≡ take (max + 1) held)
 
 -- the name isn't held, or there was a fault; where it isn't known what is held, there was a fault
 abbrev pub IsMissing : Option (List ℕ → Option (List ℕ)) → List ℕ → Type 0 → Type 0
@@ -38,7 +38,7 @@ after_read m = record m { reads = risen m.reads; faults = if fails_next m then r
 
 -- each answer of a read with its cause: the read was to fail, or the name isn't held, or its bytes are given, if memory is found
 abbrev pub ReadAnswers : (failing : Bool) → (held : Option (List ℕ)) → (max : ℕ) → Result (Vec ℕ) ReadErr → Type 0
-ReadAnswers failing held max (Ok bytes) = (failing ≡ false) × IsFrontOf held max bytes.items
+ReadAnswers failing held max (Ok bytes) = (failing ≡ false) × IsPrefixOf held max bytes.items
 ReadAnswers failing held max (Err Failed) = failing ≡ true
 ReadAnswers failing held max (Err Missing) = (failing ≡ false) × (held ≡ None)
 ReadAnswers failing held max (Err NoMemory) = (failing ≡ false) × IsSome held

@@ -4,13 +4,13 @@ use Rattle.std.specs.Io.KnownBytes.{Appends}
 use Rattle.board_io.specs.Faults.{Rose, risen}
 
 -- some prefix of the text was appended
-abbrev pub AppendsFront : Option (List ℕ) → Option (List ℕ) → List ℕ → Type 0
-AppendsFront old new text = (n : ℕ) × Appends old new (take n text)
+abbrev pub AppendsPrefix : Option (List ℕ) → Option (List ℕ) → List ℕ → Type 0
+AppendsPrefix old new text = (n : ℕ) × Appends old new (take n text)
 
 -- the text was appended whole, or the count of faults rose and a prefix of it was appended
 abbrev pub Wrote : {T E : Type 0} → (before now : ℕ) → (old new : Option (List ℕ)) → (text : List ℕ) → Result T E → Type 0
 Wrote before now old new text (Ok _) = Appends old new text
-Wrote before now old new text (Err _) = Rose before now × AppendsFront old new text
+Wrote before now old new text (Err _) = Rose before now × AppendsPrefix old new text
 
 -- a sink in memory: what was written, how many bytes it holds without taking memory, the numbers of the
 -- writes that fail with how much each keeps, and the writes and faults so far

@@ -8,7 +8,7 @@ ghost use Rattle.std.specs.Option.{option_copied};
 ghost use Rattle.std.specs.Str.{bytes_eq};
 ghost use Rattle.board_io.specs.Distinct.{all_differ};
 ghost use Rattle.board_io.specs.Faults.{Rose};
-ghost use Rattle.board_io.specs.Files.{IsFrontOf, IsMissing, held_by, fails_next, after_read, ReadAnswers, named, names};
+ghost use Rattle.board_io.specs.Files.{IsPrefixOf, IsMissing, held_by, fails_next, after_read, ReadAnswers, named, names};
 
 use std::alloc::Global;
 use std::marker::Model;
@@ -36,7 +36,7 @@ pub trait Files {
         requires { max < 2 ^ 31 }
         ensures held { held self.new ≡ held self.old }
         ensures counted { faults self.old ≤ faults self.new }
-        ensures ok { IfOk result (λ v. IfSome (held self.old) (λ at. IsFrontOf (at name.now) max v.items)) }
+        ensures ok { IfOk result (λ v. IfSome (held self.old) (λ at. IsPrefixOf (at name.now) max v.items)) }
         ensures failed { IsErrOf result ReadErr.Failed → Rose (faults self.old) (faults self.new) }
         ensures missing { IsErrOf result ReadErr.Missing →
             IsMissing (held self.old) name.now (Rose (faults self.old) (faults self.new)) };

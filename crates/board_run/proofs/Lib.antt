@@ -1,11 +1,11 @@
 pub mod Answering
 pub mod Booting
 pub mod ElementTexts
-pub mod Fronts
 pub mod Loading
 pub mod LyingAlone
 pub mod ModuleLines
 pub mod Numbers
 pub mod Places
+pub mod Prefixes
 pub mod Step
 pub mod Writing

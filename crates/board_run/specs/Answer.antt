@@ -4,7 +4,7 @@ use Rattle.std.specs.Io.KnownBytes.{Appends, Keeps}
 use Rattle.board_run.specs.Command.{Row}
 use Rattle.board_run.specs.Due.{Due, usage_line}
 use Rattle.board_run.specs.Ending.{Ends}
-use Rattle.board_io.specs.Sink.{AppendsFront}
+use Rattle.board_io.specs.Sink.{AppendsPrefix}
 use Rattle.board_io.specs.declared.status.Status.{Status}
 use Rattle.board_io.specs.declared.status.Status.TheVariants.{Done, Usage, ReadFault, Refused, WriteFault, NoMemory}
 
@@ -16,7 +16,7 @@ Answers due files_rose sink_rose old new Done = (due.status ≡ Done) × Appends
 Answers due files_rose sink_rose old new Usage = (due.status ≡ Usage) × Appends old new due.text
 Answers due files_rose sink_rose old new Refused = (due.status ≡ Refused) × Appends old new due.text
 Answers due files_rose sink_rose old new ReadFault = ((due.status ≡ ReadFault) ⊎ files_rose) × Keeps old new
-Answers due files_rose sink_rose old new WriteFault = sink_rose × AppendsFront old new due.text
+Answers due files_rose sink_rose old new WriteFault = sink_rose × AppendsPrefix old new due.text
 Answers due files_rose sink_rose old new NoMemory = Keeps old new
 
 -- What holds of the answer of a command also where it isn't known what the files hold.

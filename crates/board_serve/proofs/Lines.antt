@@ -6,7 +6,7 @@ use Rattle.std.proofs.Math.Seq.{take-append-add}
 use Rattle.std.proofs.KnownBytes.{Appends-trans}
 use Rattle.std.specs.Io.KnownBytes.{Appends}
 use Rattle.board_io.specs.Faults.{Rose}
-use Rattle.board_io.specs.Sink.{AppendsFront}
+use Rattle.board_io.specs.Sink.{AppendsPrefix}
 use Rattle.event_log.specs.Text.{line_of, text_of}
 use Rattle.event_log.specs.declared.entry.Entry.{Entry}
 
@@ -19,9 +19,9 @@ line_written start old new was e p q = subst (Appends start new) (text_more was 
 
 -- of the line of one entry more a prefix was written
 pub line_failed : (first before now : ℕ) (start old new : Option (List ℕ)) (was : List Entry) (e : Entry) → first ≤ before → Appends start old (text_of was)
-    → Rose before now × AppendsFront old new (line_of e) → Rose first now × AppendsFront start new (text_of (was ++ e ∷ []))
+    → Rose before now × AppendsPrefix old new (line_of e) → Rose first now × AppendsPrefix start new (text_of (was ++ e ∷ []))
 line_failed first before now start old new was e le p q = (
   omega (arith, le, q.0),
-  subst (AppendsFront start new) (text_more was e)
+  subst (AppendsPrefix start new) (text_more was e)
       (length (text_of was) + q.1.0, subst (Appends start new) (sym (take-append-add (text_of was) (line_of e) q.1.0)) (Appends-trans start old new (text_of was) (take q.1.0 (line_of e)) p q.1.1)),
 )

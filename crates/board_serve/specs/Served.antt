@@ -4,7 +4,7 @@ use Rattle.std.specs.Io.KnownBytes.{Appends, Keeps}
 use Rattle.atomic_table.specs.Seated.{TableId}
 use Rattle.board_file.specs.declared.board.BoardDevice.{BoardDevice}
 use Rattle.board_io.specs.Faults.{Rose}
-use Rattle.board_io.specs.Sink.{AppendsFront}
+use Rattle.board_io.specs.Sink.{AppendsPrefix}
 use Rattle.event_log.specs.Text.{text_of}
 use Rattle.event_log.specs.declared.entry.Entry.{Entry}
 use Rattle.irq_inbox.specs.Seen.{AreAllOf}
@@ -25,6 +25,6 @@ HasServed inbox devices before now old new got (Done passes) =
     HasAll devices got × Appends old new (text_of got)
     × AreAllOf inbox (length devices) passes.items × HaveSentOf devices passes.items
 HasServed inbox devices before now old new got (WriteFault passes) =
-    Rose before now × AppendsFront old new (text_of got)
+    Rose before now × AppendsPrefix old new (text_of got)
     × AreAllOf inbox (length devices) passes.items × HaveSentOf devices passes.items
 HasServed inbox devices before now old new got NoMemory = Keeps old new

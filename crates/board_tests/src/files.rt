@@ -27,7 +27,7 @@ fn read_through<F: Files>(
 }
 
 #[test]
-fn reads_the_front_or_says_why_not(rt: HostRuntime) -> Result<(), Fail> {
+fn reads_the_prefix_or_says_why_not(rt: HostRuntime) -> Result<(), Fail> {
     let mut files = two_files(rt.alloc(), vec![in rt.alloc(); 5, 2]?)?;
     let reads = [
         ("a", 3u16, Ok("hell")),

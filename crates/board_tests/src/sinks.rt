@@ -9,7 +9,7 @@ fn write_through<S: Sink>(sink: &mut S, piece: &str) -> Result<(), WriteErr> {
 }
 
 #[test]
-fn appends_pieces_or_their_fronts(rt: HostRuntime) -> Result<(), Fail> {
+fn appends_pieces_or_their_prefixes(rt: HostRuntime) -> Result<(), Fail> {
     let fails = vec![in rt.alloc(); (5u32, 100u32), (2, 3), (4, 0)]?;
     let mut sink = MemSink::new(rt.alloc(), fails);
     let writes = [

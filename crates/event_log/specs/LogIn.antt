@@ -19,8 +19,8 @@ parts_of line = slice_split (λ b. b == 32 || b == 10) line
 
 -- the one entry that a line with such parts could be: steps have one number, an interrupt has two
 abbrev pub guess : List (List ℕ) → Option Entry
-guess (letter ∷ n ∷ behind ∷ []) = Some (Steps (digits_value 10 n))
-guess (letter ∷ d ∷ w ∷ behind ∷ []) = Some (Irq (digits_value 10 d) (digits_value 16 w))
+guess (letter ∷ n ∷ rest ∷ []) = Some (Steps (digits_value 10 n))
+guess (letter ∷ d ∷ w ∷ rest ∷ []) = Some (Irq (digits_value 10 d) (digits_value 16 w))
 guess _ = None
 
 -- the entry whose line it is

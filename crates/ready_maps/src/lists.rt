@@ -136,7 +136,7 @@ pub(crate) fn put_first(threads: &mut Vec<ThreadNo>, by: &[Prio], t: ThreadNo)
 }
 
 /// The first thread of a priority after this thread.
-pub(crate) fn first_behind(
+pub(crate) fn first_after(
     threads: &[ThreadNo],
     by: &[Prio],
     priority: Prio,

@@ -126,7 +126,7 @@ impl State {
         ensures { result ≡ after self.now t }
     {
         let priority = self.priority(t);
-        lists::first_behind(&self.order, &self.priority, priority, t)
+        lists::first_after(&self.order, &self.priority, priority, t)
     }
 
     /// The most urgent ready thread.
@@ -346,7 +346,7 @@ impl State {
     }
 
     /// Whether a holder has the priority of thread t.
-    fn is_behind_holder(&self, t: ThreadNo) -> bool
+    fn is_after_holder(&self, t: ThreadNo) -> bool
         ensures { result ≡ list_any (λ k. pr self.now k == pr self.now t) self.now.held }
     {
         lists::has_priority(&self.held, &self.priority, self.priority(t))
@@ -358,7 +358,7 @@ impl State {
         requires unready { All (λ u. u ≢ t) self.old.order }
         ensures { self.new ≡ placed_again self.old t }
     {
-        if self.is_behind_holder(t) {
+        if self.is_after_holder(t) {
             self.place_last(t);
         } else {
             self.place_first(t);

@@ -5,7 +5,7 @@ use Rattle.std.proofs.lemmas.List.{take_rest}
 use Rattle.std.proofs.Math.Seq.{take-append_seam}
 use Rattle.std.proofs.KnownBytes.{Appends-trans, Appends-kept}
 use Rattle.std.specs.Io.KnownBytes.{Appends, Keeps}
-use Rattle.board_io.specs.Sink.{AppendsFront}
+use Rattle.board_io.specs.Sink.{AppendsPrefix}
 use Rattle.txboard.specs.HostOut.{AppendsPiece}
 
 -- some prefix of the piece was appended, and this rest of it was not
@@ -24,8 +24,8 @@ under_way_more old mid new piece rest n h more =
     record { done = h.done ++ take n rest; split = split_more piece h.done rest n h.split; appended = Appends-trans old mid new h.done (take n rest) h.appended more }
 
 -- the prefix that was appended
-under_way_front : (old new : Option (List ℕ)) (piece rest : List ℕ) → IsUnderWay old new piece rest → AppendsFront old new piece
-under_way_front old new piece rest h =
+under_way_prefix : (old new : Option (List ℕ)) (piece rest : List ℕ) → IsUnderWay old new piece rest → AppendsPrefix old new piece
+under_way_prefix old new piece rest h =
     (length h.done, subst (Appends old new) (sym (ap (take (length h.done)) h.split ∙ take-append_seam h.done rest)) h.appended)
 
 -- nothing is left
@@ -34,9 +34,9 @@ under_way_whole old new piece rest h none =
     subst (Appends old new) (sym (h.split ∙ ap (λ l. h.done ++ l) none ∙ append-nil h.done)) h.appended
 
 -- a write that failed kept what was written
-under_way_kept : (old mid new : Option (List ℕ)) (piece rest : List ℕ) → IsUnderWay old mid piece rest → Keeps mid new → AppendsFront old new piece
+under_way_kept : (old mid new : Option (List ℕ)) (piece rest : List ℕ) → IsUnderWay old mid piece rest → Keeps mid new → AppendsPrefix old new piece
 under_way_kept old mid new piece rest h kept =
-    under_way_front old new piece rest (record { done = h.done; split = h.split; appended = Appends-kept old mid new h.done h.appended kept })
+    under_way_prefix old new piece rest (record { done = h.done; split = h.split; appended = Appends-kept old mid new h.done h.appended kept })
 
 -- a piece whose write failed
 pub under_way_failed : {T E : Type 0} (old mid new : Option (List ℕ)) (piece rest : List ℕ) (r : Result T E)

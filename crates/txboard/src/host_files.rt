@@ -64,7 +64,7 @@ fn read_named<R: std::rt::Files>(
     ensures { IfOk result (λ v. vec_len v ≤ most) }
 {
     let mut file = fs::open(rt, name).map_err(not_opened)?;
-    read_front(alloc, &mut file, most)
+    read_prefix(alloc, &mut file, most)
 }
 
 /// What an error of opening a file means.
@@ -101,10 +101,10 @@ const NO_MEMORY: Failure = Failure {
 
 /// The first bytes of a reader, at most the given number. Each turn takes a byte at least, or is
 /// the last.
-fn read_front<F: Read>(alloc: Global, reader: &mut F, most: usize) -> Result<Vec<u8>, Failure>
+fn read_prefix<F: Read>(alloc: Global, reader: &mut F, most: usize) -> Result<Vec<u8>, Failure>
     requires { most < 2 ^ 32 }
     ensures bound { IfOk result (λ v. vec_len v ≤ most) }
-    ensures front { IfOk result (λ v. IfSome (F.remaining reader.old) (λ xs. v.items ≡ take most xs)) }
+    ensures prefix { IfOk result (λ v. IfSome (F.remaining reader.old) (λ xs. v.items ≡ take most xs)) }
     ensures taken { IfOk result (λ v. Consumes (F.remaining reader.old) (F.remaining reader.new) v.items) }
     ensures opened { IfErr result (λ f. f.why ≢ ReadErr.Missing) }
 {

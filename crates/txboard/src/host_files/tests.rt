@@ -2,7 +2,7 @@
 //!
 //! One file is written to the host's folder for temporary files, and removed at the end; no other
 //! file is written.
-use super::{HostFiles, read_front};
+use super::{HostFiles, read_prefix};
 use board_run::{Files, ReadErr};
 use std::io::{self, ErrorKind, Read};
 use std::test::Fail;
@@ -25,15 +25,15 @@ impl Read for Drip<'_> {
                 None => Ok(0),
             };
         }
-        let (front, rest) = self.left.split_at(count);
-        buf[..count].copy_from_slice(front);
+        let (prefix, rest) = self.left.split_at(count);
+        buf[..count].copy_from_slice(prefix);
         self.left = rest;
         Ok(count)
     }
 }
 
 #[test]
-fn reads_a_front_or_fails(rt: HostRuntime) {
+fn reads_a_prefix_or_fails(rt: HostRuntime) {
     let whole = "hello";
     let broken = Some(ErrorKind::BrokenPipe);
     let reads = [
@@ -54,7 +54,7 @@ fn reads_a_front_or_fails(rt: HostRuntime) {
             width,
             fault,
         };
-        match (read_front(rt.alloc(), &mut reader, usize::from(most)), want) {
+        match (read_prefix(rt.alloc(), &mut reader, usize::from(most)), want) {
             (Ok(bytes), Ok(text)) => assert_eq!(rt;
                 bytes.as_slice(),
                 text.as_bytes(),

@@ -35,7 +35,7 @@ impl Write for Narrow {
 }
 
 #[test]
-fn writes_pieces_or_their_fronts(rt: HostRuntime) -> Result<(), Fail> {
+fn writes_pieces_or_their_prefixes(rt: HostRuntime) -> Result<(), Fail> {
     let writes = [
         ("abc", Ok(()), "abc", 0),
         ("", Ok(()), "abc", 0),

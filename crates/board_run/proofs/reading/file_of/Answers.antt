@@ -1,5 +1,5 @@
 use Rattle.std.proofs.Common.{arith}
-use Rattle.board_run.proofs.Fronts.{read_whole}
+use Rattle.board_run.proofs.Prefixes.{read_whole}
 use Rattle.board_run.proofs.reading.file_of.Goals as goal
 
 pub returns-clause-file : goal.returns-clause-file
