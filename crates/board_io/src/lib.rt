@@ -2,8 +2,7 @@
 //! delays devices, and the status that a call ends with.
 //!
 //! These are traits, so that what is read and written can be held in memory and named in contracts.
-//! Files and sinks count their faults: a call that failed by the outside shows it by a higher
-//! count.
+//! Files and sinks count their faults, so a higher count shows that a call failed by the outside.
 #![tactic(auto)]
 
 mod files;

@@ -311,7 +311,7 @@ history-wider devices es few h = record {
   irqs = h.irqs;
 }
 
--- the prefix of a history is one
+-- a prefix of a history is a history
 pub front-history : (devices : ℕ) (xs ys : List Entry) → IsHistory devices (xs ++ ys) → IsHistory devices xs
 front-history devices xs [] h = subst (IsHistory devices) (append-nil xs) h
 front-history devices xs (y ∷ ys) h =

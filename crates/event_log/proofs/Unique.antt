@@ -58,7 +58,7 @@ line-unique e f x y p q same =
     (sym (append_assoc (fields_of e) (10 ∷ []) x) ∙ same ∙ append_assoc (fields_of f) (10 ∷ []) y) in
     (fields-unique e f p q parts.0, parts.1)
 
--- a prefix of a history is one
+-- a prefix of a history is a history
 pub next-history : (devices : ℕ) (before : List Entry) (e : Entry) (es : List Entry) → IsHistory devices (before ++ e ∷ es)
     → IsHistory devices (before ++ e ∷ [])
 next-history devices before e es h =

@@ -80,8 +80,9 @@ pub fn an_interrupt_closes_an_entry()
         → closed es ≡ got ++ left → interrupts left ≡ [] → closed es ≡ got }
 {}
 
-/// What is recorded within the limits leaves a history one, and each prefix of one is one. The test
-/// `is_history` holds exactly of the histories of a board with the given number of devices.
+/// A history stays a history where what is recorded keeps the limits, and each prefix of a history
+/// is a history. The test `is_history` holds exactly of the histories of a board with the given
+/// number of devices.
 pub fn a_history_stays_one()
     ensures step { (devices : ℕ) (es : List Entry) → is_history devices es ≡ true
         → step_count es < 100000000 → is_history devices (with_step es) ≡ true }

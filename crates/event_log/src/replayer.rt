@@ -37,7 +37,7 @@ pub trait Replayer {
     // for how many interrupts it has room
     ghost irqs_left: { Self → ℕ };
 
-    /// Makes one step. It takes no memory.
+    /// Makes one step. It can't run out of memory.
     fn step(&mut self)
         requires { 0 < steps_left self.old }
         ensures world { world self.new ≡ next (world self.old) Step }
@@ -45,7 +45,7 @@ pub trait Replayer {
         ensures steps_left { steps_left self.new + 1 ≡ steps_left self.old }
         ensures irqs_left { irqs_left self.new ≡ irqs_left self.old };
 
-    /// Makes n steps. It takes no memory.
+    /// Makes n steps. It can't run out of memory.
     fn steps(&mut self, n: u32)
         requires { n ≤ steps_left self.old }
         ensures world { world self.new ≡ fold next (world self.old) (replicate n Step) }
@@ -58,7 +58,7 @@ pub trait Replayer {
         }
     }
 
-    /// Takes one interrupt of device d with word w. It takes no memory.
+    /// Takes one interrupt of device d with word w. It can't run out of memory.
     fn take(&mut self, d: DevNo, w: u32)
         requires room { 0 < irqs_left self.old }
         requires device { d < devices self.old }
@@ -72,7 +72,7 @@ pub trait Replayer {
         ensures { IfOk result (λ r. r ≡ report (world self.now)) };
 }
 
-/// Makes every event of a history on a replayer, in order. It takes no memory.
+/// Makes every event of a history on a replayer, in order. It can't run out of memory.
 pub fn replay<R: Replayer>(history: &History, r: &mut R)
     requires steps { step_count history.now.entries ≤ R.steps_left r.old }
     requires irqs { irq_count history.now.entries ≤ R.irqs_left r.old }

@@ -1,6 +1,6 @@
 //! The lists of the scheduler's state, and the steps that its moves are made of.
 //!
-//! Each step takes no memory: the lists have room for every thread, and those that a list holds are
+//! No step can run out of memory: the lists have room for every thread, and those that a list holds are
 //! distinct.
 ghost use Rattle.std.specs.Prelude.{◌≡◌, ◌≢◌, ℕ, ◌+◌, ◌<◌, ◌≤◌, [], ◌∷◌, ◌++◌, All, AllPairs, length, replicate, insert, remove, nat_le, nat_lt, slice_index, slice_set, drop, fold, find, position, None, IfOk, vec_len, vec_capacity, ◌==◌};
 ghost use Rattle.std.specs.Option.{option_copied};

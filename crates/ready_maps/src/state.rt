@@ -1,7 +1,7 @@
 //! The scheduler's state as plain lists, and the steps that its moves are made of.
 //!
-//! Each step is the one of its name in the definitions, and takes no memory. What a step needs to
-//! know of the state is in its `requires`; the facts that last are kept a layer above.
+//! Each step is the one of its name in the definitions, and can't run out of memory. What a step
+//! needs to know of the state is in its `requires`; the facts that last are kept a layer above.
 ghost use Rattle.std.specs.Prelude.{◌≡◌, ◌≢◌, ◌<◌, ◌≤◌, ◌==◌, [], All, length, replicate, slice_index, slice_set, slice_get, drop, false, None, Some, IfOk, IfSome};
 ghost use Rattle.std.specs.List.{list_any};
 ghost use Rattle.ready_maps.specs.Sched.{Sched, new_sched, pr, th, is_ready, is_held, runs, first_at, after, best, pick, picked_before, without, first_in};

@@ -1,6 +1,6 @@
 //! The threads that wait at one place, in order.
 //!
-//! A list has room for every thread from the start, so it can't run out of memory.
+//! A list has room for every thread from the start, so it can't run out of memory afterwards.
 ghost use Rattle.std.specs.Prelude.{◌≡◌, ◌<◌, ◌==◌, ◌++◌, ◌∷◌, [], true, length, position, IfOk, slice_get, vec_len, vec_capacity};
 ghost use Rattle.suspend_lists.specs.ThreadList.{has, without, next_after};
 

@@ -1,7 +1,7 @@
 //! The services on object slots and on threads: one public function for each row of the table.
 //!
 //! A service tests its arguments from left to right, and then makes one change. Every one asks for a
-//! sound kernel and leaves one, takes no memory and returns.
+//! sound kernel and leaves one, can't run out of memory, and returns.
 #![tactic(auto)]
 
 mod changes;

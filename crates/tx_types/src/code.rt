@@ -35,7 +35,7 @@ impl Code {
     /// A size is out of range.
     pub const SIZE_ERROR: Code = Code(0x05);
 
-    /// A kind or an option is none.
+    /// There is no such kind or option.
     pub const OPTION_ERROR: Code = Code(0x08);
 
     /// There is no such object.
@@ -81,7 +81,7 @@ impl Code {
     /// The thread is neither completed nor terminated.
     pub const NOT_DONE: Code = Code(0x20);
 
-    /// A pointer leaves the regions of the caller's module.
+    /// A range isn't one that the caller's module may use so.
     pub const INVALID_MEMORY: Code = Code(0xF4);
 
     /// The number has no service.

@@ -47,7 +47,7 @@ pub enum End {
     Satisfied,
     /// Its time ran out first.
     TimedOut,
-    /// It was given up for the thread (ThreadX User Guide, `tx_thread_wait_abort`).
+    /// Another thread ended it (ThreadX User Guide, `tx_thread_wait_abort`).
     Aborted,
     /// The object that it waited for was removed.
     Deleted,

@@ -47,7 +47,7 @@ pub fn called<E: Eprint, F: Files, S: Sink>(
         (Rose (S.faults sink.old) (S.faults sink.new)) (S.written sink.old) (S.written sink.new)
         (ended result)) }
 
-    // Where there are no words for out of memory.
+    // Where memory ran out before there were words.
     ensures none { IfErr words (λ _. (ended result ≡ Status.NoMemory) × (files.new ≡ files.old) × (sink.new ≡ sink.old)) }
 {
     match words {

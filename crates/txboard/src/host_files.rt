@@ -1,7 +1,7 @@
 //! The host's files, read whole and never written.
 //!
-//! What the host holds is not known; where it is known what a reader has left, the prefix that is
-//! read is theirs. A file that wasn't read is told on the host's standard error as it is read.
+//! What the host holds is not known; where it is known what a reader has left, what is read is a
+//! prefix of that. A file that wasn't read is told on the host's standard error as it is read.
 ghost use Rattle.std.specs.Prelude.{◌≡◌, ◌≢◌, ◌+◌, ◌^◌, ◌<◌, ◌≤◌, None, take, vec_len, IfOk, IfErr, IfSome};
 ghost use Rattle.std.specs.Io.KnownBytes.{Consumes};
 ghost use Rattle.std.specs.IoError.{error_kind};

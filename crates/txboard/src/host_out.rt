@@ -1,7 +1,7 @@
 //! The host's standard output, written piece by piece.
 //!
 //! What the host takes is not known; where a writer has a known content, the pieces are appended
-//! to them.
+//! to it.
 ghost use Rattle.std.specs.Prelude.{◌≡◌, ◌<◌, ◌≤◌, [], length, None, IsOk, IfOk};
 ghost use Rattle.std.specs.Io.KnownBytes.{WriteAppends};
 ghost use Rattle.txboard.specs.HostOut.{AppendsPiece, count_written};
