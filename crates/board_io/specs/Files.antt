@@ -1,4 +1,4 @@
--- What a read answers by the bytes that are held under each name, and files that are held in memory.
+-- What a read answers by the bytes that are held under each name, and files in memory.
 use Rattle.std.specs.Prelude.{◌≡◌, ℕ, ◌+◌, ◌==◌, Bool, true, false, if◌then◌else◌, List, [], ◌∷◌, map, Option, None, Some, Result, Ok, Err, take, IsSome, IsSomeAnd, String, string_bytes, ◌⊎◌}
 use Rattle.std.specs.Global.{Global, Vec}
 use Rattle.std.specs.List.{list_any}
@@ -7,7 +7,8 @@ use Rattle.board_io.specs.declared.files.ReadErr.{ReadErr}
 use Rattle.board_io.specs.declared.files.ReadErr.TheVariants.{Failed, Missing, NoMemory}
 use Rattle.board_io.specs.Faults.{risen}
 
--- the file is held, and these are the first max + 1 of its bytes, or all of them where there are fewer
+-- the file is held, and these are the first max + 1 of its bytes, or all of them where there are
+-- fewer
 abbrev pub IsPrefixOf : Option (List ℕ) → ℕ → List ℕ → Type 0
 IsPrefixOf file max bytes = IsSomeAnd file (λ held. bytes ≡ take (max + 1) held)
 
@@ -16,7 +17,8 @@ abbrev pub IsMissing : Option (List ℕ → Option (List ℕ)) → List ℕ → 
 IsMissing None name fault = fault
 IsMissing (Some at) name fault = (at name ≡ None) ⊎ fault
 
--- files in memory: the bytes under each name, the numbers of the reads that fail, and the reads and faults so far
+-- files in memory: the bytes under each name, the numbers of the reads that fail, and the reads and
+-- faults so far
 pub record FilesInMemory : Type 0 where
   pub files : List (List ℕ × List ℕ)
   pub fails : List ℕ
@@ -34,10 +36,13 @@ fails_next m = list_any (λ k. k == risen m.reads) m.fails
 
 -- a read is counted, and so is its fault; what is held stays
 abbrev pub after_read : FilesInMemory → FilesInMemory
-after_read m = record m { reads = risen m.reads; faults = if fails_next m then risen m.faults else m.faults }
+after_read m =
+    record m { reads = risen m.reads; faults = if fails_next m then risen m.faults else m.faults }
 
--- each answer of a read with its cause: the read was to fail, or the name isn't held, or its bytes are given, if memory is found
-abbrev pub ReadAnswers : (failing : Bool) → (held : Option (List ℕ)) → (max : ℕ) → Result (Vec ℕ) ReadErr → Type 0
+-- each answer of a read with its cause: the read was to fail, or the name isn't held, or its bytes
+-- are given, if memory is found
+abbrev pub ReadAnswers : (failing : Bool) → (held : Option (List ℕ)) → (max : ℕ)
+    → Result (Vec ℕ) ReadErr → Type 0
 ReadAnswers failing held max (Ok bytes) = (failing ≡ false) × IsPrefixOf held max bytes.items
 ReadAnswers failing held max (Err Failed) = failing ≡ true
 ReadAnswers failing held max (Err Missing) = (failing ≡ false) × (held ≡ None)

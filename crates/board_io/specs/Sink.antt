@@ -8,12 +8,13 @@ abbrev pub AppendsPrefix : Option (List ℕ) → Option (List ℕ) → List ℕ 
 AppendsPrefix old new text = (n : ℕ) × Appends old new (take n text)
 
 -- the text was appended whole, or the count of faults rose and a prefix of it was appended
-abbrev pub Wrote : {T E : Type 0} → (before now : ℕ) → (old new : Option (List ℕ)) → (text : List ℕ) → Result T E → Type 0
+abbrev pub Wrote : {T E : Type 0} → (before now : ℕ) → (old new : Option (List ℕ))
+    → (text : List ℕ) → Result T E → Type 0
 Wrote before now old new text (Ok _) = Appends old new text
 Wrote before now old new text (Err _) = Rose before now × AppendsPrefix old new text
 
--- a sink in memory: what was written, how many bytes it holds without taking memory, the numbers of the
--- writes that fail with how much each keeps, and the writes and faults so far
+-- a sink in memory: what was written, how many bytes it holds without taking memory, the numbers of
+-- the writes that fail with how much each keeps, and the writes and faults so far
 pub record SinkInMemory : Type 0 where
   pub written : List ℕ
   pub room : ℕ
@@ -30,19 +31,29 @@ kept_by (fail ∷ fails) number = if fail.0 == number then Some fail.1 else kept
 abbrev pub kept_next : SinkInMemory → Option ℕ
 kept_next s = kept_by s.fails (risen s.writes)
 
--- nothing was appended, and the room didn't hold the piece: memory was to be taken, and there was none
+-- nothing was appended, and the room didn't hold the piece: memory was to be taken, and there was
+-- none
 abbrev pub FindsNoMemory : (room : ℕ) → (old new piece : List ℕ) → Type 0
 FindsNoMemory room old new piece = (new ≡ old) × room < length (old ++ piece)
 
--- a write appends its piece; one that is to fail appends the prefix of it that it keeps; either may find no memory
-abbrev pub AppendsKept : {T E : Type 0} → (kept : Option ℕ) → (room : ℕ) → (old new piece : List ℕ) → Result T E → Type 0
+-- a write appends its piece; one that is to fail appends the prefix of it that it keeps; either may
+-- find no memory
+abbrev pub AppendsKept : {T E : Type 0} → (kept : Option ℕ) → (room : ℕ)
+    → (old new piece : List ℕ) → Result T E → Type 0
 AppendsKept None room old new piece (Ok _) = new ≡ old ++ piece
 AppendsKept None room old new piece (Err _) = FindsNoMemory room old new piece
 AppendsKept (Some kept) room old new piece (Ok _) = ⊥
 AppendsKept (Some kept) room old new piece (Err _) =
     (new ≡ old ++ take kept piece) ⊎ FindsNoMemory room old new (take kept piece)
 
--- the sink after a write: its bytes and its room are these, the write is counted, and so is its fault
-abbrev pub after_write : SinkInMemory → (written : List ℕ) → (room : ℕ) → (failed : Bool) → SinkInMemory
+-- the sink after a write: its bytes and its room are these, the write is counted, and so is its
+-- fault
+abbrev pub after_write : SinkInMemory → (written : List ℕ) → (room : ℕ) → (failed : Bool)
+    → SinkInMemory
 after_write s written room failed =
-    record s { written = written; room = room; writes = risen s.writes; faults = if failed then risen s.faults else s.faults }
+    record s {
+      written = written;
+      room = room;
+      writes = risen s.writes;
+      faults = if failed then risen s.faults else s.faults;
+    }

@@ -36,7 +36,8 @@ pub trait Files {
         requires { max < 2 ^ 31 }
         ensures held { held self.new ≡ held self.old }
         ensures counted { faults self.old ≤ faults self.new }
-        ensures ok { IfOk result (λ v. IfSome (held self.old) (λ at. IsPrefixOf (at name.now) max v.items)) }
+        ensures ok { IfOk result (λ v.
+            IfSome (held self.old) (λ at. IsPrefixOf (at name.now) max v.items)) }
         ensures failed { IsErrOf result ReadErr.Failed → Rose (faults self.old) (faults self.new) }
         ensures missing { IsErrOf result ReadErr.Missing →
             IsMissing (held self.old) name.now (Rose (faults self.old) (faults self.new)) };
@@ -57,8 +58,12 @@ impl Model for MemFiles {
 
     ghost Value = { FilesInMemory };
 
-    ghost view = { λ m.
-        record { files = named m.files.items; fails = m.fails.items; reads = m.reads; faults = m.faults } };
+    ghost view = { λ m. record {
+      files = named m.files.items;
+      fails = m.fails.items;
+      reads = m.reads;
+      faults = m.faults;
+    } };
 }
 
 impl MemFiles {
@@ -66,7 +71,12 @@ impl MemFiles {
     /// are to fail.
     pub fn new(files: Vec<(String, Vec<u8>)>, fails: Vec<u32>) -> MemFiles
         requires { IsTrue (all_differ bytes_eq (names files.items)) }
-        ensures { result ≡ record { files = named files.items; fails = fails.items; reads = 0; faults = 0 } }
+        ensures { result ≡ record {
+          files = named files.items;
+          fails = fails.items;
+          reads = 0;
+          faults = 0;
+        } }
     {
         MemFiles {
             files,
@@ -86,7 +96,8 @@ impl Files for MemFiles {
         requires { max < 2 ^ 31 }
         ensures after { self.new ≡ after_read self.old }
         ensures counted { self.old.faults ≤ self.new.faults }
-        ensures answers { ReadAnswers (fails_next self.old) (held_by self.old.files name.now) max result }
+        ensures answers { ReadAnswers (fails_next self.old) (held_by self.old.files name.now) max
+            result }
     {
         self.reads = self.reads.saturating_add(1);
         let failing = is_listed(&self.fails, self.reads);

@@ -27,8 +27,8 @@ pub trait Sink {
     /// is appended.
     fn write(&mut self, bytes: &[u8]) -> Result<(), WriteErr>
         ensures counted { faults self.old ≤ faults self.new }
-        ensures wrote { Wrote (faults self.old) (faults self.new) (written self.old) (written self.new)
-            bytes.now result };
+        ensures wrote { Wrote (faults self.old) (faults self.new)
+            (written self.old) (written self.new) bytes.now result };
 }
 
 /// A sink that keeps nothing, says nothing of what was written and never fails.
@@ -76,7 +76,13 @@ impl MemSink {
     /// the first j bytes of its piece, or the whole piece where it has fewer; the numbers k differ.
     pub fn new(alloc: Global, fails: Vec<(u32, u32)>) -> MemSink
         requires { IsTrue (all_differ nat_eq (map (λ fail. fail.0) fails.items)) }
-        ensures { result ≡ record { written = []; room = 0; fails = fails.items; writes = 0; faults = 0 } }
+        ensures { result ≡ record {
+          written = [];
+          room = 0;
+          fails = fails.items;
+          writes = 0;
+          faults = 0;
+        } }
     {
         MemSink {
             written: Vec::new(alloc),
@@ -101,7 +107,8 @@ impl Sink for MemSink {
 
     fn write(&mut self, bytes: &[u8]) -> Result<(), WriteErr>
         ensures counted { self.old.faults ≤ self.new.faults }
-        ensures after { self.new ≡ after_write self.old self.new.written self.new.room (is_err result) }
+        ensures after { self.new
+            ≡ after_write self.old self.new.written self.new.room (is_err result) }
         ensures room { self.old.room ≤ self.new.room }
         ensures wrote { AppendsKept (kept_next self.old) self.old.room
             self.old.written self.new.written bytes.now result }

@@ -6,7 +6,8 @@ use Rattle.board_file.specs.declared.board.Action.TheVariants.{Resume}
 -- the script of the device of a number, empty past the last
 abbrev pub script_of : List BoardDevice → ℕ → List ℕ
 script_of devices d =
-    (slice_index_or devices d (record { name = []; action = Resume; target = []; script = [] })).script
+    (slice_index_or devices d
+    (record { name = []; action = Resume; target = []; script = [] })).script
 
 -- no script has more words than a board may have
 abbrev pub HasShortScripts : List BoardDevice → Type 0

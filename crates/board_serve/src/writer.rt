@@ -19,7 +19,8 @@ use tx_types::Line;
 /// Counts an entry for its device, if it is an interrupt.
 fn count_entry(counts: &mut [u32], e: &Entry)
     ensures length { length counts.new ≡ length counts.old }
-    ensures counted { (got : List Entry) → Counted counts.old got → Counted counts.new (got ++ e.now ∷ []) }
+    ensures counted { (got : List Entry) →
+        Counted counts.old got → Counted counts.new (got ++ e.now ∷ []) }
 {
     if let Entry::Irq(d, _) = *e {
         let at = d.number() as usize;

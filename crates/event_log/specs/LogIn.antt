@@ -25,7 +25,9 @@ guess _ = None
 
 -- the entry whose line it is
 abbrev pub entry_in : List ℕ → Option Entry
-entry_in line = option_and_then (λ e. if bytes_eq (line_of e) line then Some e else None) (guess (parts_of line))
+entry_in line =
+    option_and_then (λ e. if bytes_eq (line_of e) line then Some e else None)
+    (guess (parts_of line))
 
 -- at least one step, or a word of one of the given number of devices
 abbrev pub is_entry : ℕ → Entry → Bool
@@ -35,16 +37,20 @@ is_entry devices (Irq d w) = nat_lt d devices && nat_lt w (2 ^ 32)
 -- the entries are a history of a board with the given number of devices
 abbrev pub is_history : ℕ → List Entry → Bool
 is_history devices es =
-    list_all (is_entry devices) es && parted es && nat_le (step_count es) 100000000 && nat_le (irq_count es) 65536
+    list_all (is_entry devices) es && parted es
+    && nat_le (step_count es) 100000000 && nat_le (irq_count es) 65536
 
 -- the entries and one more after them, where that is a history
 abbrev pub longer : ℕ → List Entry → Entry → Option (List Entry)
-longer devices before e = let after = before ++ e ∷ [] in if is_history devices after then Some after else None
+longer devices before e =
+    let after = before ++ e ∷ [] in if is_history devices after then Some after else None
 
--- one line more: its entry goes last, and a line that can't go there is the first bad one, counted from 1
+-- one line more: its entry goes last, and a line that can't go there is the first bad one, counted
+-- from 1
 abbrev pub with_line : ℕ → Result (List Entry) ℕ → List ℕ → Result (List Entry) ℕ
 with_line devices (Err bad) line = Err bad
-with_line devices (Ok before) line = ok_or (option_and_then (longer devices before) (entry_in line)) (length before + 1)
+with_line devices (Ok before) line =
+    ok_or (option_and_then (longer devices before) (entry_in line)) (length before + 1)
 
 -- the history that a log says, or the number of its first bad line
 unfoldable pub log_in : (devices : ℕ) → List ℕ → Result (List Entry) ℕ

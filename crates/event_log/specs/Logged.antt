@@ -11,9 +11,12 @@ use Rattle.event_log.specs.declared.entry.Entry.{Entry}
 abbrev pub before_report : List (List ℕ) → Option (List (List ℕ))
 before_report [] = None
 before_report (line ∷ lines) =
-    if bytes_eq line (codes "report\n") then Some [] else option_map (λ before. line ∷ before) (before_report lines)
+    if bytes_eq line (codes "report\n") then Some []
+    else option_map (λ before. line ∷ before) (before_report lines)
 
--- the history that those lines of a text say; the empty one where they say none, or there is no report
+-- the history that those lines of a text say; the empty one where they say none, or there is no
+-- report
 unfoldable pub logged : (devices : ℕ) → List ℕ → List Entry
 logged devices text =
-    unwrap_or (option_and_then (λ lines. result_ok (log_in devices (concat lines))) (before_report (lines_of text))) []
+    unwrap_or (option_and_then (λ lines. result_ok (log_in devices (concat lines)))
+    (before_report (lines_of text))) []

@@ -27,19 +27,26 @@ Answers due (Err (BadLine line)) = due ≡ Err line
 
 -- no two histories have the same text
 abbrev pub TextsApart : ℕ → Type 0
-TextsApart devices = devices ≤ 16 → (es fs : List Entry) → IsHistory devices es → IsHistory devices fs → text_of es ≡ text_of fs → es ≡ fs
+TextsApart devices =
+    devices ≤ 16 → (es fs : List Entry) → IsHistory devices es → IsHistory devices fs
+    → text_of es ≡ text_of fs → es ≡ fs
 
 -- the text of a history has no bad line
 abbrev pub NoBadLine : ℕ → Type 0
-NoBadLine devices = devices ≤ 16 → (es : List Entry) (line : ℕ) (bytes : List ℕ) → IsLogText devices es bytes → IsBadLine devices line bytes → ⊥
+NoBadLine devices =
+    devices ≤ 16 → (es : List Entry) (line : ℕ) (bytes : List ℕ) → IsLogText devices es bytes
+    → IsBadLine devices line bytes → ⊥
 
 -- a text has one first bad line at most
 abbrev pub OneBadLine : ℕ → Type 0
-OneBadLine devices = devices ≤ 16 → (line other : ℕ) (bytes : List ℕ) → IsBadLine devices line bytes → IsBadLine devices other bytes → line ≡ other
+OneBadLine devices =
+    devices ≤ 16 → (line other : ℕ) (bytes : List ℕ) → IsBadLine devices line bytes
+    → IsBadLine devices other bytes → line ≡ other
 
 -- the text of a history says that history
 abbrev pub ReadsBack : ℕ → Type 0
-ReadsBack devices = devices ≤ 16 → (es : List Entry) → IsHistory devices es → log_in devices (text_of es) ≡ Ok es
+ReadsBack devices =
+    devices ≤ 16 → (es : List Entry) → IsHistory devices es → log_in devices (text_of es) ≡ Ok es
 
 -- bytes are the text of a history, or have that first bad line
 abbrev pub Holds : ℕ → List ℕ → Result (List Entry) ℕ → Type 0

@@ -33,7 +33,8 @@ pub record IsLogText (devices : ℕ) (es : List Entry) (bytes : List ℕ) : Type
 
 -- a text doesn't begin with a line that may come next
 abbrev pub Ends : ℕ → List Entry → List ℕ → Type 0
-Ends devices es text = (e : Entry) (more : List ℕ) → IsHistory devices (es ++ e ∷ []) → text ≡ line_of e ++ more → ⊥
+Ends devices es text =
+    (e : Entry) (more : List ℕ) → IsHistory devices (es ++ e ∷ []) → text ≡ line_of e ++ more → ⊥
 
 -- a text begins with the line of an entry that may come next, the given number of bytes
 pub record GoesOn (devices : ℕ) (es : List Entry) (text : List ℕ) (e : Entry) (n : ℕ) : Type 0 where

@@ -1,8 +1,8 @@
 //! The log: what happened on a board, as a history of steps and interrupts, and its exact text.
 //!
 //! A history is kept in memory that it has from the start, so recording can't run out of it. Each
-//! history has one text, and each text is that of one history or has a first bad line. A history can
-//! be made again, event by event, on whatever stands for a world.
+//! history has one text, and each text is that of one history or has a first bad line. A history
+//! can be made again, event by event, on whatever stands for a world.
 #![tactic(auto)]
 
 mod entry;

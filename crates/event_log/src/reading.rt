@@ -46,7 +46,8 @@ pub fn read_log(alloc: Global, bytes: &[u8], devices: u8) -> Result<History, Log
     ensures bad { IfErr result (TellsBadLine devices bytes.now) }
     ensures means { Answers (log_in devices bytes.now) result }
     ensures each_history { (es : List Entry) → IsLogText devices es bytes.now → IsReadAs es result }
-    ensures each_bad_line { (line : ℕ) → IsBadLine devices line bytes.now → IsRefusedAt line result }
+    ensures each_bad_line { (line : ℕ) →
+        IsBadLine devices line bytes.now → IsRefusedAt line result }
 {
     read_lines(alloc, bytes, devices)
 }
@@ -89,7 +90,8 @@ fn number(digits: &[u8], radix: u32) -> u32
 
 /// The interrupt that the numbers of a line may be.
 fn irq_guess(numbers: &[u8]) -> Option<Entry>
-    ensures { (d w : ℕ) → d < 16 → w < 2 ^ 32 → numbers.now ≡ numbers_of (Irq d w) → result ≡ Some (Irq d w) }
+    ensures { (d w : ℕ) → d < 16 → w < 2 ^ 32 → numbers.now ≡ numbers_of (Irq d w)
+        → result ≡ Some (Irq d w) }
 {
     if numbers.len() < 9 {
         return None;
@@ -106,7 +108,8 @@ fn irq_guess(numbers: &[u8]) -> Option<Entry>
 
 /// The entry that a line may be.
 fn guess(line: &[u8]) -> Option<Entry>
-    ensures { (e : Entry) → IsEntry 16 e → steps_in e < 2 ^ 32 → line.now ≡ line_of e → result ≡ Some e }
+    ensures { (e : Entry) → IsEntry 16 e → steps_in e < 2 ^ 32 → line.now ≡ line_of e
+        → result ≡ Some e }
 {
     if line.len() < 3 {
         return None;
@@ -123,7 +126,8 @@ fn guess(line: &[u8]) -> Option<Entry>
 fn line_entry(line: &[u8], devices: u8) -> Option<Entry>
     requires { devices ≤ 16 }
     ensures some { IfSome result (λ e. IsEntry devices e × (line.now ≡ line_of e)) }
-    ensures found { (e : Entry) → IsEntry devices e → steps_in e < 2 ^ 32 → line.now ≡ line_of e → result ≡ Some e }
+    ensures found { (e : Entry) → IsEntry devices e → steps_in e < 2 ^ 32 → line.now ≡ line_of e
+        → result ≡ Some e }
 {
     let e = guess(line)?;
     if e.is_of(devices) && is_line_of(e, line) {
@@ -146,8 +150,8 @@ fn is_line_of(e: Entry, line: &[u8]) -> bool
 /// The length of the line that a text begins with, its newline included.
 fn line_len(text: &[u8]) -> usize
     ensures within { result ≤ length text.now }
-    ensures line { (fields more : List ℕ) → All (λ b. b ≢ 10) fields → text.now ≡ fields ++ 10 ∷ more
-        → result ≡ length fields + 1 }
+    ensures line { (fields more : List ℕ) → All (λ b. b ≢ 10) fields
+        → text.now ≡ fields ++ 10 ∷ more → result ≡ length fields + 1 }
 {
     match newline(text) {
         Some(i) => i + 1,

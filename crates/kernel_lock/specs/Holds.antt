@@ -11,8 +11,8 @@ use Rattle.event_log.specs.LogIn.{is_history}
 use Rattle.irq_inbox.specs.Seen.{CpuSeen}
 use Rattle.log_lane.specs.Seen.{LaneSeen, PassSeen}
 
--- the core of a session with this origin, inbox and lane: its machine, the inbox, the pass that takes
--- from it, the lane, and the pass that puts into it
+-- the core of a session with this origin, inbox and lane: its machine, the inbox, the pass that
+-- takes from it, the lane, and the pass that puts into it
 pub record Holds (origin : Origin) (box : TableId) (line : LaneSeen) (machine : Recorded)
     (inbox : TableId) (pass : CpuSeen) (lane : LaneSeen) (put : PassSeen) : Type 0 where
   -- all are of the session

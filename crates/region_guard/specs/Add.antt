@@ -13,7 +13,8 @@ unless_met (Some i) = Err (Overlap i)
 
 -- no region goes into full memory, nor one that meets another: the first that it meets is named
 abbrev pub add_answer : Memory → Region → Result (Unit {0}) AddErr
-add_answer g r = if length g.regions == 64 then Err Full else unless_met (position (meets r) g.regions)
+add_answer g r =
+    if length g.regions == 64 then Err Full else unless_met (position (meets r) g.regions)
 
 -- an added region goes last; a refusal changes nothing
 abbrev pub after_add : Memory → Region → Result (Unit {0}) AddErr → Memory

@@ -32,13 +32,15 @@ abbrev pub CallsKeepTheWheel : Type 0
 CallsKeepTheWheel = (w : TimerTable) (c : Call) → IsWheel w → MayCall w c → IsWheel (called w c)
 
 abbrev pub TicksKeepTheWheel : Type 0
-TicksKeepTheWheel = (w : TimerTable) → IsWheel w → IsRunning w → w.ticks < 2 ^ 63 → IsWheel (ticked w)
+TicksKeepTheWheel =
+    (w : TimerTable) → IsWheel w → IsRunning w → w.ticks < 2 ^ 63 → IsWheel (ticked w)
 
 -- what is due is in order of arming
 abbrev pub DueAreInOrder : Type 0
 DueAreInOrder = (w : TimerTable) → IsWheel w → AllPairs (λ d e. d.arming < e.arming) (due_now w)
 
--- as one is listed it is still armed; once it isn't, it never is again by the same arming, whatever is called
+-- as one is listed it is still armed; once it isn't, it never is again by the same arming, whatever
+-- is called
 abbrev pub DueAreArmed : Type 0
 DueAreArmed = (w : TimerTable) → IsWheel w → All (λ d. still w d ≡ true) (due_now w)
 
@@ -47,7 +49,8 @@ DisarmedIsOver = (w : TimerTable) (d : Armed) → still (disarmed w d.id) d ≡ 
 
 abbrev pub OverStaysOver : Type 0
 OverStaysOver =
-    (w : TimerTable) (d : Armed) (c : Call) → d.arming < w.armings → still w d ≡ false → still (called w c) d ≡ false
+    (w : TimerTable) (d : Armed) (c : Call) → d.arming < w.armings → still w d ≡ false
+    → still (called w c) d ≡ false
 
 -- an entry is one of a list, by number and arming
 abbrev pub is_among : List Armed → Armed → Bool
@@ -57,25 +60,29 @@ is_among ds e = list_any (λ d. (d.id == e.id) && (d.arming == e.arming)) ds
 abbrev pub IsRunningBut : List Armed → TimerTable → Type 0
 IsRunningBut ds w = All (λ e. (nat_lt w.ticks e.expiry || is_among ds e) ≡ true) w.entries
 
--- a tick leaves those without one that are due; arming and disarming adds none; each turn takes its own away
+-- a tick leaves those without one that are due; arming and disarming adds none; each turn takes its
+-- own away
 abbrev pub TicksLeaveTheDue : Type 0
 TicksLeaveTheDue = (w : TimerTable) → IsRunning w → IsRunningBut (due_now (ticked w)) (ticked w)
 
 abbrev pub CallsAddNone : Type 0
 CallsAddNone =
-    (w : TimerTable) (ds : List Armed) (c : Call) → MayCall w c → IsRunningBut ds w → IsRunningBut ds (called w c)
+    (w : TimerTable) (ds : List Armed) (c : Call) → MayCall w c → IsRunningBut ds w
+    → IsRunningBut ds (called w c)
 
 abbrev pub TurnsTakeOne : Type 0
 TurnsTakeOne =
-    (w : TimerTable) (d : Armed) (ds : List Armed) → IsWheel w → still w d ≡ false → IsRunningBut (d ∷ ds) w
-    → IsRunningBut ds w
+    (w : TimerTable) (d : Armed) (ds : List Armed) → IsWheel w → still w d ≡ false
+    → IsRunningBut (d ∷ ds) w → IsRunningBut ds w
 
 abbrev pub NoneIsRunning : Type 0
 NoneIsRunning = (w : TimerTable) → IsRunningBut [] w → IsRunning w
 
--- After a tick, once none of those that were due is still armed by the same arming, each that is armed has at least
--- one tick left.
+-- After a tick, once none of those that were due is still armed by the same arming, each that is
+-- armed has at least one tick left.
 abbrev pub RunsAfterTheTurns : Type 0
 RunsAfterTheTurns =
-    (w : TimerTable) (cs : List Call) → IsWheel w → IsRunning w → w.ticks < 2 ^ 63 → MayCallAll (ticked w) cs
-    → All (λ d. still (all_called (ticked w) cs) d ≡ false) (due_now (ticked w)) → IsRunning (all_called (ticked w) cs)
+    (w : TimerTable) (cs : List Call) → IsWheel w → IsRunning w → w.ticks < 2 ^ 63
+    → MayCallAll (ticked w) cs
+    → All (λ d. still (all_called (ticked w) cs) d ≡ false) (due_now (ticked w))
+    → IsRunning (all_called (ticked w) cs)

@@ -27,10 +27,17 @@ impl Model for Wheel {
 
     ghost Value = { TimerTable };
 
-    ghost view = { λ w. record { ticks = w.ticks; armings = w.armings; entries = w.entries.items } };
+    ghost view = { λ w. record {
+      ticks = w.ticks;
+      armings = w.armings;
+      entries = w.entries.items;
+    } };
 
-    ghost invariant = { λ w. IsWheel (record { ticks = w.ticks; armings = w.armings; entries = w.entries.items })
-        × (512 ≤ vec_capacity w.entries) };
+    ghost invariant = { λ w. IsWheel (record {
+      ticks = w.ticks;
+      armings = w.armings;
+      entries = w.entries.items;
+    }) × (512 ≤ vec_capacity w.entries) };
 }
 
 impl Wheel {

@@ -23,7 +23,8 @@ called w (ToFront t) = put_first w t
 
 -- when a call may be made
 abbrev pub MayCall : WaitTable → Call → Type 0
-MayCall w (Begin t x) = (t < 256) × (pending w t ≡ None) × IfSome (place x.on) (λ p. p < place_count)
+MayCall w (Begin t x) =
+    (t < 256) × (pending w t ≡ None) × IfSome (place x.on) (λ p. p < place_count)
 MayCall w (Finish t e) = IsSome (pending w t)
 MayCall w (ToFront t) = IsSome (place_of w t)
 
@@ -57,14 +58,16 @@ TotalsKeepTheTable =
 
 abbrev pub RestoresKeepTheTable : Type 0
 RestoresKeepTheTable =
-    (w : WaitTable) (t : ℕ) (x : Wait) (n : ℕ) → IsTable w → MayCall w (Begin t x) → n < w.totals.begun → IsFreeNumber w n
+    (w : WaitTable) (t : ℕ) (x : Wait) (n : ℕ) → IsTable w → MayCall w (Begin t x)
+    → n < w.totals.begun → IsFreeNumber w n
     → pending_count w + ended_count w.totals < w.totals.begun → IsTable (restored w t x n)
 
--- A thread waits at most once: it stands at no second place, once where it stands, and nowhere where it sleeps or
--- doesn't wait.
+-- A thread waits at most once: it stands at no second place, once where it stands, and nowhere
+-- where it sleeps or doesn't wait.
 abbrev pub AtOnePlace : Type 0
 AtOnePlace =
-    (w : WaitTable) (p q t : ℕ) → IsTable w → has t (waiters w (Some p)) ≡ true → has t (waiters w (Some q)) ≡ true → p ≡ q
+    (w : WaitTable) (p q t : ℕ) → IsTable w
+    → has t (waiters w (Some p)) ≡ true → has t (waiters w (Some q)) ≡ true → p ≡ q
 
 abbrev pub OnceThere : Type 0
 OnceThere = (w : WaitTable) (p : ℕ) → IsTable w → IsDistinct nat_eq (waiters w (Some p))
@@ -78,7 +81,8 @@ abbrev pub IsWhole : WaitTable → Type 0
 IsWhole w = pending_count w + ended_count w.totals ≡ w.totals.begun
 
 abbrev pub CallsKeepItWhole : Type 0
-CallsKeepItWhole = (w : WaitTable) (c : Call) → IsTable w → MayCall w c → IsWhole w → IsWhole (called w c)
+CallsKeepItWhole =
+    (w : WaitTable) (c : Call) → IsTable w → MayCall w c → IsWhole w → IsWhole (called w c)
 
 -- how often a number stands in a list, and how many threads are in the wait of that number
 abbrev pub times : ℕ → List ℕ → ℕ
@@ -90,7 +94,8 @@ has_number n o = option_map_or (λ p. p.number == n) o false
 abbrev pub pending_times : WaitTable → ℕ → ℕ
 pending_times w n = count_by (has_number n) w.waits
 
--- Each number below how many began is that of one pending wait, or of one that ended; no other number is of either.
+-- Each number below how many began is that of one pending wait, or of one that ended; no other
+-- number is of either.
 abbrev pub IsAccounted : WaitTable → List ℕ → Type 0
 IsAccounted w over =
     (n : ℕ) → pending_times w n + times n over ≡ (if nat_lt n w.totals.begun then 1 else 0)
@@ -103,7 +108,8 @@ CallsAccount =
 -- whatever was called since a table was new
 abbrev pub HistoriesAccount : Type 0
 HistoriesAccount =
-    (cs : List Call) → MayCallAll new_table cs → IsAccounted (all_called new_table cs) (all_over new_table cs)
+    (cs : List Call) → MayCallAll new_table cs
+    → IsAccounted (all_called new_table cs) (all_over new_table cs)
 
 -- the number that the next wait gets is of no pending wait and of none that ended
 abbrev pub NextNumberIsNew : Type 0

@@ -24,7 +24,8 @@ new_table = record {
   waits = replicate 256 None;
 }
 
--- the wait that a thread is in, with its number; the two parts of it, and the place at which it waits
+-- the wait that a thread is in, with its number; the two parts of it, and the place at which it
+-- waits
 abbrev pub pending : WaitTable → ℕ → Option Pending
 pending w t = slice_index_or w.waits t None
 
@@ -84,7 +85,8 @@ restored w t x n = record w {
 -- a thread begins to wait: the number is how many began before
 abbrev pub begun : WaitTable → ℕ → Wait → WaitTable
 begun w t x =
-    restored (record w { totals = record w.totals { begun = w.totals.begun + 1 } }) t x w.totals.begun
+    restored (record w { totals = record w.totals { begun = w.totals.begun + 1 } }) t x
+    w.totals.begun
 
 -- the wait of a thread ends
 abbrev pub ended : WaitTable → ℕ → End → WaitTable
@@ -113,8 +115,8 @@ IsFreeNumber w n = (t : ℕ) → number_of w t ≢ Some n
 abbrev pub waits_at : WaitTable → ℕ → ℕ → Bool
 waits_at w p t = option_map_or (λ q. q == p) (place_of w t) false
 
--- What holds of every table. A thread stands in the list of the place at which it waits, once, and in no other.
--- Each wait has a number of its own, below how many began.
+-- What holds of every table. A thread stands in the list of the place at which it waits, once, and
+-- in no other. Each wait has a number of its own, below how many began.
 pub record IsTable (w : WaitTable) : Type 0 where
   pub places : length w.lists ≡ place_count
   pub threads : length w.waits ≡ 256

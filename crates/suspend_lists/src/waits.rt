@@ -29,9 +29,17 @@ impl Model for Waits {
 
     ghost Value = { WaitTable };
 
-    ghost view = { λ w. record { totals = w.totals; lists = w.lists.items; waits = w.waits.items } };
+    ghost view = { λ w. record {
+      totals = w.totals;
+      lists = w.lists.items;
+      waits = w.waits.items;
+    } };
 
-    ghost invariant = { λ w. IsTable (record { totals = w.totals; lists = w.lists.items; waits = w.waits.items }) };
+    ghost invariant = { λ w. IsTable (record {
+      totals = w.totals;
+      lists = w.lists.items;
+      waits = w.waits.items;
+    }) };
 }
 
 impl Waits {
@@ -137,7 +145,8 @@ impl Waits {
         requires free { pending self.old t ≡ None }
         requires given { n < self.old.totals.begun }
         requires unused { IsFreeNumber self.old n }
-        requires fits { pending_count self.old + ended_count self.old.totals < self.old.totals.begun }
+        requires fits { pending_count self.old + ended_count self.old.totals
+            < self.old.totals.begun }
         ensures { self.new ≡ restored self.old t w n }
     {
         join(&mut self.lists, w.on, t);

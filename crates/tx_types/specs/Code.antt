@@ -1,4 +1,5 @@
--- The status codes by their names in the ThreadX API (`tx_api.h`); INVALID_MEMORY is this board's own, as in ThreadX Modules.
+-- The status codes by their names in the ThreadX API (`tx_api.h`); INVALID_MEMORY is this board's
+-- own, as in ThreadX Modules.
 use Rattle.std.specs.Prelude.{ℕ}
 
 abbrev pub success : ℕ

@@ -1,6 +1,7 @@
 //! Plain values that every layer of the board shares.
 //!
-//! They have no rules of the kernel in them. A type with a range never holds a value outside of it.
+//! A type with a range never holds a value outside of it. What the services do with these values is
+//! left to the crates above.
 #![tactic(auto)]
 
 mod code;

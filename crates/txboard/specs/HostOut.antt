@@ -5,7 +5,8 @@ use Rattle.board_io.specs.Faults.{risen}
 use Rattle.board_io.specs.Sink.{AppendsPrefix}
 
 -- the piece was appended whole, or a prefix of it where the write failed
-abbrev pub AppendsPiece : {T E : Type 0} → (old new : Option (List ℕ)) → (piece : List ℕ) → Result T E → Type 0
+abbrev pub AppendsPiece : {T E : Type 0} → (old new : Option (List ℕ)) → (piece : List ℕ)
+    → Result T E → Type 0
 AppendsPiece old new piece (Ok _) = Appends old new piece
 AppendsPiece old new piece (Err _) = AppendsPrefix old new piece
 

@@ -35,11 +35,13 @@ pub fn called<E: Eprint, F: Files, S: Sink>(
     // What `board_still` says of its answer holds of the status.
     ensures answers { IfOk words (λ w. IfSome (F.held files.old) (λ at.
         Answers (due (map string_bytes w.items) at)
-        (Rose (F.faults files.old) (F.faults files.new)) (Rose (S.faults sink.old) (S.faults sink.new))
+        (Rose (F.faults files.old) (F.faults files.new))
+        (Rose (S.faults sink.old) (S.faults sink.new))
         (S.written sink.old) (S.written sink.new) (ended result))) }
     ensures complete { IfOk words (λ w. IfSome (F.held files.old) (λ at.
         Completes (due (map string_bytes w.items) at)
-        (Rose (F.faults files.old) (F.faults files.new)) (Rose (S.faults sink.old) (S.faults sink.new))
+        (Rose (F.faults files.old) (F.faults files.new))
+        (Rose (S.faults sink.old) (S.faults sink.new))
         (ended result))) }
     ensures untold { IfNone (F.held files.old) (ended result ≡ Status.ReadFault →
         Rose (F.faults files.old) (F.faults files.new)) }
@@ -48,7 +50,8 @@ pub fn called<E: Eprint, F: Files, S: Sink>(
         (ended result)) }
 
     // Where memory ran out before there were words.
-    ensures none { IfErr words (λ _. (ended result ≡ Status.NoMemory) × (files.new ≡ files.old) × (sink.new ≡ sink.old)) }
+    ensures none { IfErr words (λ _. (ended result ≡ Status.NoMemory)
+        × (files.new ≡ files.old) × (sink.new ≡ sink.old)) }
 {
     match words {
         Ok(words) => {

@@ -21,7 +21,8 @@ pub fn told_read<T: Drop, E: Eprint>(
     name: &str,
     outcome: Result<T, Failure>,
 ) -> Result<T, ReadErr>
-    ensures { MatchResult outcome (λ v. IsOkAnd result (λ w. w ≡ v)) (λ f. IsErrAnd result (λ e. e ≡ f.why)) }
+    ensures { MatchResult outcome (λ v. IsOkAnd result (λ w. w ≡ v))
+        (λ f. IsErrAnd result (λ e. e ≡ f.why)) }
 {
     match outcome {
         Ok(value) => Ok(value),

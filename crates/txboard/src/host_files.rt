@@ -104,8 +104,10 @@ const NO_MEMORY: Failure = Failure {
 fn read_prefix<F: Read>(alloc: Global, reader: &mut F, most: usize) -> Result<Vec<u8>, Failure>
     requires { most < 2 ^ 32 }
     ensures bound { IfOk result (λ v. vec_len v ≤ most) }
-    ensures prefix { IfOk result (λ v. IfSome (F.remaining reader.old) (λ xs. v.items ≡ take most xs)) }
-    ensures taken { IfOk result (λ v. Consumes (F.remaining reader.old) (F.remaining reader.new) v.items) }
+    ensures prefix { IfOk result (λ v.
+        IfSome (F.remaining reader.old) (λ xs. v.items ≡ take most xs)) }
+    ensures taken { IfOk result (λ v.
+        Consumes (F.remaining reader.old) (F.remaining reader.new) v.items) }
     ensures opened { IfErr result (λ f. f.why ≢ ReadErr.Missing) }
 {
     let mut bytes = Vec::new(alloc);

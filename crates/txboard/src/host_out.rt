@@ -33,7 +33,8 @@ impl<W: Write + Drop> Sink for HostOut<W> {
     fn write(&mut self, piece: &[u8]) -> Result<(), WriteErr>
         ensures counted { self.old.faults ≤ self.new.faults }
         ensures count { self.new.faults ≡ count_written self.old.faults result }
-        ensures wrote { AppendsPiece (W.contents self.old.out) (W.contents self.new.out) piece.now result }
+        ensures wrote { AppendsPiece (W.contents self.old.out) (W.contents self.new.out) piece.now
+            result }
         ensures nothing { piece.now ≡ [] → IsOk result }
     {
         let outcome = write_whole(&mut self.out, piece);

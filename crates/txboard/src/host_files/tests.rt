@@ -54,7 +54,10 @@ fn reads_a_prefix_or_fails(rt: HostRuntime) {
             width,
             fault,
         };
-        match (read_prefix(rt.alloc(), &mut reader, usize::from(most)), want) {
+        match (
+            read_prefix(rt.alloc(), &mut reader, usize::from(most)),
+            want,
+        ) {
             (Ok(bytes), Ok(text)) => assert_eq!(rt;
                 bytes.as_slice(),
                 text.as_bytes(),
