@@ -15,12 +15,16 @@ no_entry = record { id = 0; expiry = 0; arming = 0 }
 -- what is found has what all have, and passes the test
 pub find_has : (P : Armed → Type 0) (p : Armed → Bool) (es : List Armed) (e : Armed) → find p es ≡ Some e → All P es → P e
 find_has P p [] e found all = absurd (cc)
-find_has P p (x ∷ es) e found all = cond_both (p x) (Some x) (find p es) (λ o. o ≡ Some e → P e) (λ here same. let x_is_e : x ≡ e = cc in subst P x_is_e (All-head P x es all)) (λ missed later. find_has P p es e later (All-tail P x es all)) found
+find_has P p (x ∷ es) e found all =
+    cond_both (p x) (Some x) (find p es) (λ o. o ≡ Some e → P e) (λ here same. let x_is_e : x ≡ e = cc in subst P x_is_e (All-head P x es all))
+    (λ missed later. find_has P p es e later (All-tail P x es all)) found
 
 -- where nothing is found, none passes the test
 pub none_passes : (p : Armed → Bool) (es : List Armed) → find p es ≡ None → All (λ e. p e ≡ false) es
 none_passes p [] none = All-nil (λ e. p e ≡ false)
-none_passes p (x ∷ es) none = cond_both (p x) (Some x) (find p es) (λ o. o ≡ None → All (λ e. p e ≡ false) (x ∷ es)) (λ here never. absurd (cc)) (λ missed later. All-cons (λ e. p e ≡ false) x es missed (none_passes p es later)) none
+none_passes p (x ∷ es) none =
+    cond_both (p x) (Some x) (find p es) (λ o. o ≡ None → All (λ e. p e ≡ false) (x ∷ es)) (λ here never. absurd (cc))
+    (λ missed later. All-cons (λ e. p e ≡ false) x es missed (none_passes p es later)) none
 
 -- numbers that differ
 
@@ -34,7 +38,9 @@ distinct_numbers es apart =
 
 below_all : (es : List Armed) (q : ℕ) → All (λ e. e.id < 512) es → list_any (λ n. q == n) (map (λ e. e.id) es) ≡ true → q < 512
 below_all [] q low there = let never : false ≡ true = there in absurd (cc)
-below_all (x ∷ es) q low there = ⊎_elim (λ same. let is_x = eqb-true q x.id same in let below = All-head (λ e. e.id < 512) x es low in omega arith) (λ later. below_all es q (All-tail (λ e. e.id < 512) x es low) later) (or_cases (q == x.id) (list_any (λ n. q == n) (map (λ e. e.id) es)) there)
+below_all (x ∷ es) q low there =
+    ⊎_elim (λ same. let is_x = eqb-true q x.id same in let below = All-head (λ e. e.id < 512) x es low in omega arith)
+    (λ later. below_all es q (All-tail (λ e. e.id < 512) x es low) later) (or_cases (q == x.id) (list_any (λ n. q == n) (map (λ e. e.id) es)) there)
 
 -- at most 512 are armed
 pub few : (es : List Armed) → AllPairs (λ d e. d.id ≢ e.id) es → All (λ e. e.id < 512) es → length es ≤ 512

@@ -19,7 +19,10 @@ armed_keeps w id n wheel free low short =
       each_once = all_pairs_push (λ d e. d.id ≢ e.id) w.entries new wheel.each_once (λ k d inside. eqb-false _ _ (others k d inside));
       in_order = all_pairs_push (λ d e. d.arming < e.arming) w.entries new wheel.in_order (λ k d inside. wheel.armed_before k d inside);
       numbers = All-push (λ e. e.id < 512) w.entries new wheel.numbers low;
-      armed_before = All-push (λ e. e.arming < w.armings + 1) w.entries new (All-weaker (λ (e : Armed). e.arming < w.armings) (λ e. e.arming < w.armings + 1) (λ e below. omega arith) w.entries wheel.armed_before) (omega arith);
+      armed_before =
+          All-push (λ e. e.arming < w.armings + 1) w.entries new
+          (All-weaker (λ (e : Armed). e.arming < w.armings) (λ e. e.arming < w.armings + 1) (λ e below. omega arith) w.entries wheel.armed_before)
+          (omega arith);
       not_past = All-push (λ e. w.ticks ≤ e.expiry) w.entries new wheel.not_past (omega arith);
       not_far = All-push (λ e. e.expiry < w.ticks + 2 ^ 32) w.entries new wheel.not_far (omega arith);
       ticks_few = wheel.ticks_few;
@@ -73,5 +76,8 @@ room w id wheel free low =
 -- the test of whether a tick may come
 pub runs_by_test : (w : TimerTable) → (list_all (λ e. nat_lt w.ticks e.expiry) w.entries ≡ true) ↔ IsRunning w
 runs_by_test w =
-    let later = λ (e : Armed). nat_lt w.ticks e.expiry in
-    (λ yes k d inside. ltb-true _ _ (AllPass-from_list_all later w.entries yes k d inside), λ running. list_all-from_AllPass later w.entries (λ k d inside. lt-ltb _ _ (running k d inside)))
+    let later = λ (e : Armed). nat_lt w.ticks e.expiry in (
+      λ yes k d inside. ltb-true _ _ (AllPass-from_list_all later w.entries yes k d inside),
+      λ running. list_all-from_AllPass later w.entries
+          (λ k d inside. lt-ltb _ _ (running k d inside)),
+    )

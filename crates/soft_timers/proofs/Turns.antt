@@ -32,7 +32,9 @@ found_at (x ∷ es) apart =
     let rest = found_at es (tail_apart (λ d e. d.id ≢ e.id) x es apart) in
     let others = head_apart (λ d e. d.id ≢ e.id) x es apart in
     All-cons (λ e. find (λ y. y.id == e.id) (x ∷ es) ≡ Some e) x es (cond-true (x.id == x.id) (Some x) (find (λ y. y.id == x.id) es) (eq-eqb x.id x.id refl))
-    (λ k d inside. cond-false (x.id == (slice_index_or es k d).id) (Some x) (find (λ y. y.id == (slice_index_or es k d).id) es) (ne_eqb x.id (slice_index_or es k d).id (others k d inside)) ∙ rest k d inside)
+    (λ k d inside. cond-false (x.id == (slice_index_or es k d).id) (Some x) (find (λ y. y.id == (slice_index_or es k d).id) es)
+    (ne_eqb x.id (slice_index_or es k d).id (others k d inside))
+    ∙ rest k d inside)
 
 still_here : (w : TimerTable) (d e : Armed) → armed w e.id ≡ Some e → d.id ≡ e.id → d.arming ≡ e.arming → still w d ≡ true
 still_here w d e found same_id same_arming =
@@ -44,7 +46,9 @@ due_are_in_order w wheel = AllPairs-filter (λ d e. d.arming < e.arming) (λ e. 
 
 pub due_are_armed : DueAreArmed
 due_are_armed w wheel =
-    All-filter (λ e. e.expiry == w.ticks) (λ d. still w d ≡ true) w.entries (All-weaker (λ e. armed w e.id ≡ Some e) (λ d. still w d ≡ true) (λ e found. still_here w e e found refl refl) w.entries (found_at w.entries wheel.each_once))
+    All-filter (λ e. e.expiry == w.ticks) (λ d. still w d ≡ true) w.entries
+    (All-weaker (λ e. armed w e.id ≡ Some e) (λ d. still w d ≡ true) (λ e found. still_here w e e found refl refl) w.entries
+    (found_at w.entries wheel.each_once))
 
 -- one that is over
 
@@ -54,11 +58,15 @@ find_none-without id (x ∷ es) =
     let rest = find_none-without id es in
     ⊎_elim (λ (here : (x.id == id) ≡ true). rw here rest) (λ (other : (x.id == id) ≡ false). rw other (rw other rest)) (cases_Bool (x.id == id))
 
-find_other-without : (id other : ℕ) (es : List Armed) → (other ≡ id → ⊥) → find (λ e. e.id == other) (filter (λ e. not (e.id == id)) es) ≡ find (λ e. e.id == other) es
+find_other-without : (id other : ℕ) (es : List Armed) → (other ≡ id → ⊥)
+    → find (λ e. e.id == other) (filter (λ e. not (e.id == id)) es) ≡ find (λ e. e.id == other) es
 find_other-without id other [] apart = refl
 find_other-without id other (x ∷ es) apart =
     let rest = find_other-without id other es apart in
-    ⊎_elim (λ here. let same = eqb-true x.id id here in let missed : (x.id == other) ≡ false = ne_eqb x.id other (λ is. apart (sym is ∙ same)) in rw (here, missed) rest)
+    ⊎_elim
+    (λ here. let same = eqb-true x.id id here in
+    let missed : (x.id == other) ≡ false = ne_eqb x.id other (λ is. apart (sym is ∙ same)) in
+    rw (here, missed) rest)
     (λ kept. rw kept (ap (λ (o : Option Armed). cond (x.id == other) (Some x) o) rest))
     (cases_Bool (x.id == id))
 
@@ -71,7 +79,9 @@ still_by o n = option_map_or (λ m. m == n) (option_map (λ x. x.arming) o) fals
 over_disarmed : (w : TimerTable) (d : Armed) (id : ℕ) → still w d ≡ false → still (disarmed w id) d ≡ false
 unfolding still_by
 over_disarmed w d id over =
-    ⊎_elim (λ (same : d.id ≡ id). ap (λ (o : Option Armed). still_by o d.arming) (subst (λ (n : ℕ). find (λ e. e.id == d.id) (filter (λ e. not (e.id == n)) w.entries) ≡ None) same (find_none-without d.id w.entries)))
+    ⊎_elim
+    (λ (same : d.id ≡ id). ap (λ (o : Option Armed). still_by o d.arming)
+    (subst (λ (n : ℕ). find (λ e. e.id == d.id) (filter (λ e. not (e.id == n)) w.entries) ≡ None) same (find_none-without d.id w.entries)))
     (λ apart. ap (λ (o : Option Armed). still_by o d.arming) (find_other-without id d.id w.entries apart) ∙ over)
     (cases_eq d.id id)
 
@@ -81,7 +91,8 @@ over_armed w d id n before over =
     let new : Armed = record { id = id; expiry = w.ticks + n; arming = w.armings } in
     let joined = find-append (λ (e : Armed). e.id == d.id) w.entries (new ∷ []) in
     let later : (w.armings == d.arming) ≡ false = ne_eqb w.armings d.arming (λ same. absurd (omega arith)) in
-    let at_new : still_by (find (λ e. e.id == d.id) (new ∷ [])) d.arming ≡ false = cond_both (id == d.id) (Some new) None (λ o. still_by o d.arming ≡ false) (λ _. later) (λ _. refl) in
+    let at_new : still_by (find (λ e. e.id == d.id) (new ∷ [])) d.arming ≡ false = cond_both (id == d.id) (Some new) None (λ o. still_by o d.arming ≡ false)
+    (λ _. later) (λ _. refl) in
     ap (λ (o : Option Armed). still_by o d.arming) joined ∙ either (armed w d.id) (find (λ e. e.id == d.id) (new ∷ [])) over at_new where
       either : (o r : Option Armed) → still_by o d.arming ≡ false → still_by r d.arming ≡ false → still_by (option_or o r) d.arming ≡ false
       either None r left right = right
@@ -97,22 +108,30 @@ among_kept : (p : Armed → Bool) (es : List Armed) → All (λ e. p e ≡ true 
 among_kept p [] = All-nil (λ e. p e ≡ true → is_among [] e ≡ true)
 among_kept p (x ∷ es) =
     let rest = among_kept p es in
-    let first : p x ≡ true → is_among (filter p (x ∷ es)) x ≡ true = λ (here : p x ≡ true). rw here (or_left ((x.id == x.id) && (x.arming == x.arming)) (is_among (filter p es) x) (and_from (x.id == x.id) (x.arming == x.arming) (eq-eqb x.id x.id refl) (eq-eqb x.arming x.arming refl))) in
-    let later = λ (e : Armed) (among : is_among (filter p es) e ≡ true). cond_both (p x) (x ∷ filter p es) (filter p es) (λ ds. is_among ds e ≡ true) (λ _. or_right ((x.id == e.id) && (x.arming == e.arming)) (is_among (filter p es) e) among) (λ _. among) in
+    let first : p x ≡ true → is_among (filter p (x ∷ es)) x ≡ true =
+    λ (here : p x ≡ true). rw here
+    (or_left ((x.id == x.id) && (x.arming == x.arming)) (is_among (filter p es) x)
+    (and_from (x.id == x.id) (x.arming == x.arming) (eq-eqb x.id x.id refl) (eq-eqb x.arming x.arming refl))) in
+    let later =
+    λ (e : Armed) (among : is_among (filter p es) e ≡ true). cond_both (p x) (x ∷ filter p es) (filter p es) (λ ds. is_among ds e ≡ true)
+    (λ _. or_right ((x.id == e.id) && (x.arming == e.arming)) (is_among (filter p es) e) among) (λ _. among) in
     All-cons (λ e. p e ≡ true → is_among (filter p (x ∷ es)) e ≡ true) x es first (λ k d inside passes. later (slice_index_or es k d) (rest k d inside passes))
 
 pub ticks_leave_the_due : TicksLeaveTheDue
 ticks_leave_the_due w running k d inside =
     let e = slice_index_or w.entries k d in
     let later = running k d inside in
-    ⊎_elim (λ (now : e.expiry ≡ w.ticks + 1). or_right (nat_lt (w.ticks + 1) e.expiry) (is_among (due_now (ticked w)) e) (among_kept (λ x. x.expiry == w.ticks + 1) w.entries k d inside (eq-eqb e.expiry (w.ticks + 1) now)))
+    ⊎_elim
+    (λ (now : e.expiry ≡ w.ticks + 1). or_right (nat_lt (w.ticks + 1) e.expiry) (is_among (due_now (ticked w)) e)
+    (among_kept (λ x. x.expiry == w.ticks + 1) w.entries k d inside (eq-eqb e.expiry (w.ticks + 1) now)))
     (λ not_now. or_left (nat_lt (w.ticks + 1) e.expiry) (is_among (due_now (ticked w)) e) (lt-ltb (w.ticks + 1) e.expiry (omega arith)))
     (cases_eq e.expiry (w.ticks + 1))
 
 pub calls_add_none : CallsAddNone
 calls_add_none w ds (Arm id n) may running =
     let new : Armed = record { id = id; expiry = w.ticks + n; arming = w.armings } in
-    All-push (λ e. (nat_lt w.ticks e.expiry || is_among ds e) ≡ true) w.entries new running (or_left (nat_lt w.ticks (w.ticks + n)) (is_among ds new) (lt-ltb w.ticks (w.ticks + n) (omega (arith, may.2))))
+    All-push (λ e. (nat_lt w.ticks e.expiry || is_among ds e) ≡ true) w.entries new running
+    (or_left (nat_lt w.ticks (w.ticks + n)) (is_among ds new) (lt-ltb w.ticks (w.ticks + n) (omega (arith, may.2))))
 calls_add_none w ds (Disarm id) may running = All-filter (λ e. not (e.id == id)) (λ e. (nat_lt w.ticks e.expiry || is_among ds e) ≡ true) w.entries running
 
 pub turns_take_one : TurnsTakeOne
@@ -121,7 +140,8 @@ turns_take_one w d ds wheel over running k x inside =
     let found = found_at w.entries wheel.each_once k x inside in
     ⊎_elim (λ later. or_left (nat_lt w.ticks e.expiry) (is_among ds e) later)
     (λ among. or_right (nat_lt w.ticks e.expiry) (is_among ds e) (⊎_elim
-    (λ is_d. let parts = and_parts (d.id == e.id) (d.arming == e.arming) is_d in absurd (both_ways (still w d) over (still_here w d e found (eqb-true d.id e.id parts.0) (eqb-true d.arming e.arming parts.1))))
+    (λ is_d. let parts = and_parts (d.id == e.id) (d.arming == e.arming) is_d in
+    absurd (both_ways (still w d) over (still_here w d e found (eqb-true d.id e.id parts.0) (eqb-true d.arming e.arming parts.1))))
     (λ other. other)
     (or_cases ((d.id == e.id) && (d.arming == e.arming)) (is_among ds e) among)))
     (or_cases (nat_lt w.ticks e.expiry) (is_among (d ∷ ds) e) (running k x inside))
@@ -129,7 +149,8 @@ turns_take_one w d ds wheel over running k x inside =
 pub none_is_running : NoneIsRunning
 none_is_running w running k d inside =
     let e = slice_index_or w.entries k d in
-    ⊎_elim (λ later. ltb-true w.ticks e.expiry later) (λ among. let never : false ≡ true = among in absurd (cc)) (or_cases (nat_lt w.ticks e.expiry) false (running k d inside))
+    ⊎_elim (λ later. ltb-true w.ticks e.expiry later) (λ among. let never : false ≡ true = among in absurd (cc))
+    (or_cases (nat_lt w.ticks e.expiry) false (running k d inside))
 
 all_over : (w : TimerTable) (ds : List Armed) → IsWheel w → All (λ d. still w d ≡ false) ds → IsRunningBut ds w → IsRunning w
 all_over w [] wheel over running = none_is_running w running
@@ -146,4 +167,5 @@ all_add_none w ds (c ∷ cs) may running = all_add_none (called w c) ds cs may.1
 
 pub runs_after_the_turns : RunsAfterTheTurns
 runs_after_the_turns w cs wheel running more may over =
-    all_over (all_called (ticked w) cs) (due_now (ticked w)) (all_keep (ticked w) cs (ticked_keeps w wheel running more) may) over (all_add_none (ticked w) (due_now (ticked w)) cs may (ticks_leave_the_due w running))
+    all_over (all_called (ticked w) cs) (due_now (ticked w)) (all_keep (ticked w) cs (ticked_keeps w wheel running more) may) over
+    (all_add_none (ticked w) (due_now (ticked w)) cs may (ticks_leave_the_due w running))

@@ -39,8 +39,8 @@ TicksKeepTheWheel =
 abbrev pub DueAreInOrder : Type 0
 DueAreInOrder = (w : TimerTable) → IsWheel w → AllPairs (λ d e. d.arming < e.arming) (due_now w)
 
--- as one is listed it is still armed; once it isn't, it never is again by the same arming, whatever
--- is called
+-- as one is listed it is still armed; once it isn't, it never is again by the same arming,
+-- whatever is called
 abbrev pub DueAreArmed : Type 0
 DueAreArmed = (w : TimerTable) → IsWheel w → All (λ d. still w d ≡ true) (due_now w)
 
@@ -60,8 +60,8 @@ is_among ds e = list_any (λ d. (d.id == e.id) && (d.arming == e.arming)) ds
 abbrev pub IsRunningBut : List Armed → TimerTable → Type 0
 IsRunningBut ds w = All (λ e. (nat_lt w.ticks e.expiry || is_among ds e) ≡ true) w.entries
 
--- a tick leaves those without one that are due; arming and disarming adds none; each turn takes its
--- own away
+-- a tick leaves those without one that are due; arming and disarming adds none; each turn takes
+-- its own away
 abbrev pub TicksLeaveTheDue : Type 0
 TicksLeaveTheDue = (w : TimerTable) → IsRunning w → IsRunningBut (due_now (ticked w)) (ticked w)
 

@@ -33,11 +33,9 @@ impl Model for Wheel {
       entries = w.entries.items;
     } };
 
-    ghost invariant = { λ w. IsWheel (record {
-      ticks = w.ticks;
-      armings = w.armings;
-      entries = w.entries.items;
-    }) × (512 ≤ vec_capacity w.entries) };
+    ghost invariant = { λ w. IsWheel
+        (record { ticks = w.ticks; armings = w.armings; entries = w.entries.items })
+        × (512 ≤ vec_capacity w.entries) };
 }
 
 impl Wheel {

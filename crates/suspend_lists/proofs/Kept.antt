@@ -28,10 +28,13 @@ pub at_Some : (o : Option ℕ) (q : ℕ) → is_at o q ≡ true → o ≡ Some q
 at_Some None q here = absurd (cc)
 at_Some (Some p) q here = ap Some (eqb-true p q here)
 
-pub waiters-with : (lists : List (List ℕ)) (o : Option ℕ) (ts : List ℕ) (q : ℕ) → IfSome o (λ p. p < length lists) → waiters_in (with_waiters lists o ts) (Some q) ≡ cond (is_at o q) ts (waiters_in lists (Some q))
+pub waiters-with : (lists : List (List ℕ)) (o : Option ℕ) (ts : List ℕ) (q : ℕ) → IfSome o (λ p. p < length lists)
+    → waiters_in (with_waiters lists o ts) (Some q) ≡ cond (is_at o q) ts (waiters_in lists (Some q))
 waiters-with lists None ts q inside = refl
 waiters-with lists (Some p) ts q inside =
-    ⊎_elim (λ same. subst (λ (r : ℕ). slice_index_or (slice_set lists p ts) r [] ≡ cond (p == r) ts (slice_index_or lists r [])) same (get_or-set_same lists p ts [] inside ∙ sym (cond-true (p == p) ts _ (eq-eqb p p refl))))
+    ⊎_elim
+    (λ same. subst (λ (r : ℕ). slice_index_or (slice_set lists p ts) r [] ≡ cond (p == r) ts (slice_index_or lists r [])) same
+    (get_or-set_same lists p ts [] inside ∙ sym (cond-true (p == p) ts _ (eq-eqb p p refl))))
     (λ other. get_or-set_other lists p q ts [] (λ back. other (sym back)) ∙ sym (cond-false (p == q) ts _ (ne_eqb p q other)))
     (cases_eq p q)
 
@@ -39,9 +42,12 @@ length-with : (lists : List (List ℕ)) (o : Option ℕ) (ts : List ℕ) → len
 length-with lists None ts = refl
 length-with lists (Some p) ts = length-set lists p ts
 
-distinct-with : (lists : List (List ℕ)) (o : Option ℕ) (ts : List ℕ) → IfSome o (λ p. p < length lists) → ((q : ℕ) → IsDistinct nat_eq (waiters_in lists (Some q))) → IsDistinct nat_eq ts → (q : ℕ) → IsDistinct nat_eq (waiters_in (with_waiters lists o ts) (Some q))
+distinct-with : (lists : List (List ℕ)) (o : Option ℕ) (ts : List ℕ) → IfSome o (λ p. p < length lists)
+    → ((q : ℕ) → IsDistinct nat_eq (waiters_in lists (Some q))) → IsDistinct nat_eq ts → (q : ℕ)
+    → IsDistinct nat_eq (waiters_in (with_waiters lists o ts) (Some q))
 distinct-with lists o ts inside each one q =
-    subst (IsDistinct nat_eq) (sym (waiters-with lists o ts q inside)) (cond_both (is_at o q) ts (waiters_in lists (Some q)) (IsDistinct nat_eq) (λ _. one) (λ _. each q))
+    subst (IsDistinct nat_eq) (sym (waiters-with lists o ts q inside))
+    (cond_both (is_at o q) ts (waiters_in lists (Some q)) (IsDistinct nat_eq) (λ _. one) (λ _. each q))
 
 nil_distinct : IsDistinct nat_eq []
 unfolding IsDistinct
@@ -56,7 +62,8 @@ distinct_at lists (Some p) each = each p
 pending_same : (waits : List (Option Pending)) (t u : ℕ) (o : Option Pending) → t < length waits → t ≡ u → slice_index_or (slice_set waits t o) u None ≡ o
 pending_same waits t u o inside same = subst (λ (v : ℕ). slice_index_or (slice_set waits t o) v None ≡ o) same (get_or-set_same waits t o None inside)
 
-pending_other : (waits : List (Option Pending)) (t u : ℕ) (o : Option Pending) → (t ≡ u → ⊥) → slice_index_or (slice_set waits t o) u None ≡ slice_index_or waits u None
+pending_other : (waits : List (Option Pending)) (t u : ℕ) (o : Option Pending) → (t ≡ u → ⊥)
+    → slice_index_or (slice_set waits t o) u None ≡ slice_index_or waits u None
 pending_other waits t u o other = get_or-set_other waits t u o None (λ back. other (sym back))
 
 abbrev place_in : Option Pending → Option ℕ
@@ -73,7 +80,9 @@ some_within waits t some = ⊎_elim (λ inside. inside) (λ past. absurd (cc (ge
 pub place_within : (w : WaitTable) (t p : ℕ) → IsTable w → place_of w t ≡ Some p → p < length w.lists
 place_within w t p table at =
     ⊎_elim (λ inside. inside)
-    (λ past. let here : waits_at w p t ≡ true = ap (λ (o : Option ℕ). is_at o p) at ∙ eq-eqb p p refl in let none : has t (waiters w (Some p)) ≡ false = ap (has t) (get_or_past w.lists p [] past) in absurd (cc (table.at_its_place p t)))
+    (λ past. let here : waits_at w p t ≡ true = ap (λ (o : Option ℕ). is_at o p) at ∙ eq-eqb p p refl in
+    let none : has t (waiters w (Some p)) ≡ false = ap (has t) (get_or_past w.lists p [] past) in
+    absurd (cc (table.at_its_place p t)))
     (cases_lt p (length w.lists))
 
 pub within : (w : WaitTable) (t : ℕ) (o : Option ℕ) → IsTable w → place_of w t ≡ o → IfSome o (λ p. p < length w.lists)
@@ -85,9 +94,11 @@ within w t (Some p) table at = place_within w t p table at
 old_at : (w : WaitTable) (o : Option ℕ) (q u : ℕ) → IsTable w → is_at o q ≡ true → has u (waiters_in w.lists o) ≡ waits_at w q u
 old_at w o q u table here = ap (λ (p : Option ℕ). has u (waiters_in w.lists p)) (at_Some o q here) ∙ table.at_its_place q u
 
-at_its_place-with : (w : WaitTable) (o : Option ℕ) (ts : List ℕ) (q u : ℕ) (b : Bool) → IsTable w → IfSome o (λ p. p < length w.lists) → (is_at o q ≡ true → has u ts ≡ b) → (is_at o q ≡ false → waits_at w q u ≡ b) → has u (waiters_in (with_waiters w.lists o ts) (Some q)) ≡ b
+at_its_place-with : (w : WaitTable) (o : Option ℕ) (ts : List ℕ) (q u : ℕ) (b : Bool) → IsTable w → IfSome o (λ p. p < length w.lists)
+    → (is_at o q ≡ true → has u ts ≡ b) → (is_at o q ≡ false → waits_at w q u ≡ b) → has u (waiters_in (with_waiters w.lists o ts) (Some q)) ≡ b
 at_its_place-with w o ts q u b table inside here elsewhere =
-    ap (has u) (waiters-with w.lists o ts q inside) ∙ cond_both (is_at o q) ts (waiters w (Some q)) (λ us. has u us ≡ b) here (λ other. table.at_its_place q u ∙ elsewhere other)
+    ap (has u) (waiters-with w.lists o ts q inside)
+    ∙ cond_both (is_at o q) ts (waiters w (Some q)) (λ us. has u us ≡ b) here (λ other. table.at_its_place q u ∙ elsewhere other)
 
 -- a thread that doesn't wait stands nowhere
 pub stands_nowhere : (w : WaitTable) (t : ℕ) (o : Option ℕ) → IsTable w → pending w t ≡ None → has t (waiters_in w.lists o) ≡ false
@@ -141,7 +152,8 @@ begun_stays x Gone = refl
 
 -- each call
 
-pub restored_keeps : (w : WaitTable) (t : ℕ) (x : Wait) (n : ℕ) → IsTable w → t < 256 → pending w t ≡ None → IfSome (place x.on) (λ p. p < place_count) → n < w.totals.begun → IsFreeNumber w n → pending_count w + ended_count w.totals < w.totals.begun → IsTable (restored w t x n)
+pub restored_keeps : (w : WaitTable) (t : ℕ) (x : Wait) (n : ℕ) → IsTable w → t < 256 → pending w t ≡ None → IfSome (place x.on) (λ p. p < place_count)
+    → n < w.totals.begun → IsFreeNumber w n → pending_count w + ended_count w.totals < w.totals.begun → IsTable (restored w t x n)
 restored_keeps w t x n table low none at below unused fits =
     let new : Option Pending = Some (record { wait = x; number = n }) in
     let o = place x.on in
@@ -173,13 +185,19 @@ restored_keeps w t x n table low none at below unused fits =
           (cases_eq t u);
       numbers_apart = λ u v m at_u at_v. ⊎_elim
           (λ (e : t ≡ u). ⊎_elim (λ (f : t ≡ v). sym e ∙ f)
-          (λ apart. let n_is_m = same_Some n m (sym (ap number_in (same u e)) ∙ at_u) in absurd (unused v (sym (ap number_in (other v apart)) ∙ (at_v ∙ ap Some (sym n_is_m)))))
+          (λ apart. let n_is_m = same_Some n m (sym (ap number_in (same u e)) ∙ at_u) in
+          absurd (unused v (sym (ap number_in (other v apart)) ∙ (at_v ∙ ap Some (sym n_is_m)))))
           (cases_eq t v))
-          (λ apart. ⊎_elim (λ (f : t ≡ v). let n_is_m = same_Some n m (sym (ap number_in (same v f)) ∙ at_v) in absurd (unused u (sym (ap number_in (other u apart)) ∙ (at_u ∙ ap Some (sym n_is_m)))))
+          (λ apart. ⊎_elim
+          (λ (f : t ≡ v). let n_is_m = same_Some n m (sym (ap number_in (same v f)) ∙ at_v) in
+          absurd (unused u (sym (ap number_in (other u apart)) ∙ (at_u ∙ ap Some (sym n_is_m)))))
           (λ apart_v. table.numbers_apart u v m (sym (ap number_in (other u apart)) ∙ at_u) (sym (ap number_in (other v apart_v)) ∙ at_v))
           (cases_eq t v))
           (cases_eq t u);
-      counts = let summed : pending_count (restored w t x n) + weight (pending w t) ≡ pending_count w + 1 = sum_by-set weight w.waits t new None inside in let old : weight (pending w t) ≡ 0 = ap weight none in omega arith;
+      counts =
+          let summed : pending_count (restored w t x n) + weight (pending w t) ≡ pending_count w + 1 = sum_by-set weight w.waits t new None inside in
+          let old : weight (pending w t) ≡ 0 = ap weight none in
+          omega arith;
     }
 
 pub ended_keeps : (w : WaitTable) (t : ℕ) (e : End) → IsTable w → IsSome (pending w t) → IsTable (ended w t e)
@@ -215,7 +233,12 @@ ended_keeps w t e table some =
           (λ apart_v. table.numbers_apart u v m (sym (ap number_in (other u apart)) ∙ at_u) (sym (ap number_in (other v apart_v)) ∙ at_v))
           (cases_eq t v))
           (cases_eq t u);
-      counts = let summed : pending_count (ended w t e) + weight (pending w t) ≡ pending_count w + 0 = sum_by-set weight w.waits t None None inside in let old = weight_some (pending w t) some in let more = ended_more w.totals e in let stays = begun_stays w.totals e in omega arith;
+      counts =
+          let summed : pending_count (ended w t e) + weight (pending w t) ≡ pending_count w + 0 = sum_by-set weight w.waits t None None inside in
+          let old = weight_some (pending w t) some in
+          let more = ended_more w.totals e in
+          let stays = begun_stays w.totals e in
+          omega arith;
     }
 
 pub put_first_keeps : (w : WaitTable) (t : ℕ) → IsTable w → IsSome (place_of w t) → IsTable (put_first w t)
@@ -227,10 +250,14 @@ put_first_keeps w t table some =
     record {
       places = length-with w.lists o (t ∷ without t ts) ∙ table.places;
       threads = table.threads;
-      each_once = distinct-with w.lists o (t ∷ without t ts) there table.each_once (distinct-first t (without t ts) (distinct-without t ts (distinct_at w.lists o table.each_once)) (not_has-without t ts));
+      each_once =
+          distinct-with w.lists o (t ∷ without t ts) there table.each_once
+          (distinct-first t (without t ts) (distinct-without t ts (distinct_at w.lists o table.each_once)) (not_has-without t ts));
       at_its_place = λ q u. at_its_place-with w o (t ∷ without t ts) q u (waits_at w q u) table there
           (λ here. let stands = leaves u ts in let before = old_at w o q u table here in ⊎_elim
-          (λ (is_t : t ≡ u). let equal = eq-eqb u t (sym is_t) in let waits : waits_at w q u ≡ true = subst (λ (v : ℕ). waits_at w q v ≡ true) is_t here in grind (arith, nat_tests))
+          (λ (is_t : t ≡ u). let equal = eq-eqb u t (sym is_t) in
+          let waits : waits_at w q u ≡ true = subst (λ (v : ℕ). waits_at w q v ≡ true) is_t here in
+          grind (arith, nat_tests))
           (λ apart. let differs = ne_eqb u t (λ back. apart (sym back)) in let also = ne_eqb t u apart in grind (arith, nat_tests))
           (cases_eq t u))
           (λ elsewhere. refl);
@@ -273,7 +300,13 @@ new_is_table = record {
   none = None
 
   no_list : (p : ℕ) → slice_index_or (replicate {A = List ℕ} place_count []) p [] ≡ []
-  no_list p = ⊎_elim (λ inside. get_or-replicate {A = List ℕ} place_count p [] [] inside) (λ past. get_or_past (replicate {A = List ℕ} place_count []) p [] (subst (λ (n : ℕ). n ≤ p) (sym (length-replicate {A = List ℕ} place_count [])) past)) (cases_lt p place_count)
+  no_list p =
+      ⊎_elim (λ inside. get_or-replicate {A = List ℕ} place_count p [] [] inside)
+      (λ past. get_or_past (replicate {A = List ℕ} place_count []) p []
+      (subst (λ (n : ℕ). n ≤ p) (sym (length-replicate {A = List ℕ} place_count [])) past))
+      (cases_lt p place_count)
 
   no_wait : (t : ℕ) → slice_index_or (replicate 256 none) t None ≡ None
-  no_wait t = ⊎_elim (λ inside. get_or-replicate 256 t none None inside) (λ past. get_or_past (replicate 256 none) t None (subst (λ (n : ℕ). n ≤ t) (sym (length-replicate 256 none)) past)) (cases_lt t 256)
+  no_wait t =
+      ⊎_elim (λ inside. get_or-replicate 256 t none None inside)
+      (λ past. get_or_past (replicate 256 none) t None (subst (λ (n : ℕ). n ≤ t) (sym (length-replicate 256 none)) past)) (cases_lt t 256)

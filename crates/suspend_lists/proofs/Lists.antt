@@ -50,7 +50,8 @@ not_has-without t ts = let out = has-without t t ts in grind (arith, nat_tests)
 -- threads are below 256, so there is room for one more
 pub room : (t : ℕ) (ts : List ℕ) → t < 256 → IsDistinct nat_eq ts → has t ts ≡ false → ((u : ℕ) → has u ts ≡ true → u < 256) → length ts < 256
 room t ts low once new below =
-    let all : (u : ℕ) → has u (t ∷ ts) ≡ true → u < 256 = λ u there. ⊎_elim (λ same. let is_t = eqb-true u t same in omega arith) (λ later. below u later) (or_cases (u == t) (has u ts) there) in
+    let all : (u : ℕ) → has u (t ∷ ts) ≡ true → u < 256 =
+    λ u there. ⊎_elim (λ same. let is_t = eqb-true u t same in omega arith) (λ later. below u later) (or_cases (u == t) (has u ts) there) in
     let most = length-le_from_distinct_below (t ∷ ts) 256 (distinct-first t ts once new) all in
     omega arith
 

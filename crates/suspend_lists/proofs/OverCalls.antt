@@ -8,7 +8,7 @@ use Rattle.std.proofs.lemmas.List.Sums.{sum_by-set, sum_by-append}
 use Rattle.std.specs.List.{slice_index_or, count_by, sum_by}
 use Rattle.std.specs.Option.{IsSome, option_map}
 use Rattle.tx_types.specs.declared.waits.End.{End}
-use Rattle.suspend_lists.specs.Laws.{Call, Begin, Finish, ToFront, called, MayCall, all_called, MayCallAll, over_by, all_over, CallsKeepTheTable, TotalsKeepTheTable, RestoresKeepTheTable, AtOnePlace, OnceThere, ElseNowhere, IsWhole, CallsKeepItWhole, times, has_number, pending_times, IsAccounted, CallsAccount, HistoriesAccount, NextNumberIsNew}
+use Rattle.suspend_lists.specs.Laws.{Call, Begin, Finish, ToFront, called, MayCall, all_called, MayCallAll, WaitEnd, over_by, all_over, CallsKeepTheTable, TotalsKeepTheTable, RestoresKeepTheTable, AtOnePlace, OnceThere, ElseNowhere, IsWhole, CallsKeepItWhole, times, has_number, pending_times, IsAccounted, CallsAccount, HistoriesAccount, NextNumberIsNew}
 use Rattle.suspend_lists.specs.Waits.{WaitTable, IsTable, new_table, pending, number_of, waits_at, begun, ended, pending_count, ended_count, counted}
 use Rattle.suspend_lists.specs.declared.wait.Pending.{Pending}
 use Rattle.suspend_lists.specs.declared.wait.Wait.{Wait}
@@ -19,7 +19,8 @@ use Rattle.suspend_lists.proofs.Kept.{is_at, at_Some, some_within, weight, weigh
 pub calls_keep : CallsKeepTheTable
 calls_keep w (Begin t x) table may =
     let counts = table.counts in
-    restored_keeps (record w { totals = record w.totals { begun = w.totals.begun + 1 } }) t x w.totals.begun (begins_keeps w table) may.0 may.1 may.2 (omega arith) (next_is_free w table) (omega arith)
+    restored_keeps (record w { totals = record w.totals { begun = w.totals.begun + 1 } }) t x w.totals.begun (begins_keeps w table) may.0 may.1 may.2
+    (omega arith) (next_is_free w table) (omega arith)
 calls_keep w (Finish t e) table may = ended_keeps w t e table may
 calls_keep w (ToFront t) table may = put_first_keeps w t table may
 
@@ -63,7 +64,8 @@ begin_counts w t x table low none =
 
 end_counts : (w : WaitTable) (t : ℕ) (e : End) → IsSome (pending w t) → pending_count (ended w t e) + 1 ≡ pending_count w
 end_counts w t e some =
-    let summed : pending_count (ended w t e) + weight (pending w t) ≡ pending_count w + 0 = sum_by-set weight w.waits t None None (some_within w.waits t some) in
+    let summed : pending_count (ended w t e) + weight (pending w t) ≡ pending_count w + 0 =
+    sum_by-set weight w.waits t None None (some_within w.waits t some) in
     let old = weight_some (pending w t) some in
     omega arith
 
@@ -84,41 +86,57 @@ new_is_whole = let none : Option Pending = None in let sum = sum_by-replicate we
 abbrev marked : ℕ → Option Pending → ℕ
 marked n o = cond (has_number n o) 1 0
 
-begin_accounts : (w : WaitTable) (over : List ℕ) (t : ℕ) (x : Wait) → IsTable w → t < 256 → pending w t ≡ None → IsAccounted w over → IsAccounted (begun w t x) over
+begin_accounts : (w : WaitTable) (over : List WaitEnd) (t : ℕ) (x : Wait) → IsTable w → t < 256 → pending w t ≡ None → IsAccounted w over
+    → IsAccounted (begun w t x) over
 begin_accounts w over t x table low none all n =
     let new : Option Pending = Some (record { wait = x; number = w.totals.begun }) in
     let inside : t < length w.waits = subst (λ (m : ℕ). t < m) (sym table.threads) low in
-    let summed : pending_times (begun w t x) n + marked n (pending w t) ≡ pending_times w n + cond (w.totals.begun == n) 1 0 = sum_by-set (marked n) w.waits t new None inside in
+    let summed : pending_times (begun w t x) n + marked n (pending w t) ≡ pending_times w n + cond (w.totals.begun == n) 1 0 =
+    sum_by-set (marked n) w.waits t new None inside in
     let old : marked n (pending w t) ≡ 0 = ap (marked n) none in
     let before = all n in
     grind (arith, nat_tests)
 
-end_accounts : (w : WaitTable) (over : List ℕ) (t m : ℕ) (e : End) → IsSome (pending w t) → (marked_by : (n : ℕ) → marked n (pending w t) ≡ cond (m == n) 1 0) → IsAccounted w over → IsAccounted (ended w t e) (over ++ m ∷ [])
+end_accounts : (w : WaitTable) (over : List WaitEnd) (t m : ℕ) (e : End) → IsSome (pending w t)
+    → (marked_by : (n : ℕ) → marked n (pending w t) ≡ cond (m == n) 1 0) → IsAccounted w over
+    → IsAccounted (ended w t e) (over ++ record { wait = m; how = e } ∷ [])
 end_accounts w over t m e some marked_by all n =
-    let summed : pending_times (ended w t e) n + marked n (pending w t) ≡ pending_times w n + 0 = sum_by-set (marked n) w.waits t None None (some_within w.waits t some) in
-    let added : times n (over ++ m ∷ []) ≡ times n over + times n (m ∷ []) = sum_by-append (λ k. cond (k == n) 1 0) over (m ∷ []) in
-    let one : times n (m ∷ []) ≡ cond (m == n) 1 0 = omega arith in
+    let summed : pending_times (ended w t e) n + marked n (pending w t) ≡ pending_times w n + 0 =
+    sum_by-set (marked n) w.waits t None None (some_within w.waits t some) in
+    let d : WaitEnd = record { wait = m; how = e } in
+    let added : times n (over ++ d ∷ []) ≡ times n over + times n (d ∷ []) =
+    sum_by-append (λ (c : WaitEnd). cond (c.wait == n) 1 0) over (d ∷ []) in
+    let one : times n (d ∷ []) ≡ cond (m == n) 1 0 = omega arith in
     let old = marked_by n in
     let stays = begun_stays w.totals e in
-    let before : pending_times w n + times n over ≡ cond (nat_lt n (ended w t e).totals.begun) 1 0 = subst (λ (b : ℕ). pending_times w n + times n over ≡ cond (nat_lt n b) 1 0) (sym stays) (all n) in
+    let before : pending_times w n + times n over ≡ cond (nat_lt n (ended w t e).totals.begun) 1 0 =
+    subst (λ (b : ℕ). pending_times w n + times n over ≡ cond (nat_lt n b) 1 0) (sym stays) (all n) in
     omega arith
 
 pub calls_account : CallsAccount
 calls_account w over (Begin t x) table may all = subst (IsAccounted (begun w t x)) (sym (append-nil over)) (begin_accounts w over t x table may.0 may.1 all)
 calls_account w over (Finish t e) table may all = by_wait (pending w t) refl may where
-  by_wait : (o : Option Pending) → pending w t ≡ o → IsSome o → IsAccounted (ended w t e) (over ++ option_to_list (option_map (λ p. p.number) o))
+  by_wait : (o : Option Pending) → pending w t ≡ o → IsSome o
+      → IsAccounted (ended w t e)
+      (over ++ option_to_list (option_map (λ n. record { wait = n; how = e }) (option_map (λ p. p.number) o)))
   by_wait None is some = absurd (cc)
   by_wait (Some p) is some = end_accounts w over t p.number e may (λ n. ap (marked n) is) all
 calls_account w over (ToFront t) table may all = subst (IsAccounted w) (sym (append-nil over)) all
 
 pub new_is_accounted : IsAccounted new_table []
-new_is_accounted n = let none : Option Pending = None in let sum = sum_by-replicate (marked n) 256 none in let never : nat_lt n 0 ≡ false = le-ltb n 0 (omega arith) in rw never (omega arith)
+new_is_accounted n =
+    let none : Option Pending = None in
+    let sum = sum_by-replicate (marked n) 256 none in
+    let never : nat_lt n 0 ≡ false = le-ltb n 0 (omega arith) in
+    rw never (omega arith)
 
-all_account : (w : WaitTable) (over : List ℕ) (cs : List Call) → IsTable w → MayCallAll w cs → IsAccounted w over → IsAccounted (all_called w cs) (over ++ all_over w cs)
+all_account : (w : WaitTable) (over : List WaitEnd) (cs : List Call) → IsTable w → MayCallAll w cs → IsAccounted w over
+    → IsAccounted (all_called w cs) (over ++ all_over w cs)
 all_account w over [] table may all = subst (IsAccounted w) (sym (append-nil over)) all
 all_account w over (c ∷ cs) table may all =
     let next = calls_account w over c table may.0 all in
-    subst (IsAccounted (all_called (called w c) cs)) (append_assoc over (over_by w c) (all_over (called w c) cs)) (all_account (called w c) (over ++ over_by w c) cs (calls_keep w c table may.0) may.1 next)
+    subst (IsAccounted (all_called (called w c) cs)) (append_assoc over (over_by w c) (all_over (called w c) cs))
+    (all_account (called w c) (over ++ over_by w c) cs (calls_keep w c table may.0) may.1 next)
 
 pub histories_account : HistoriesAccount
 histories_account cs may = all_account new_table [] cs new_is_table may new_is_accounted

@@ -1,8 +1,9 @@
 -- What holds over all calls of a table of waits.
 use Rattle.std.specs.Prelude.{ℕ, ◌≡◌, ◌≢◌, ◌+◌, ◌<◌, ◌≤◌, ◌==◌, nat_eq, nat_lt, Bool, true, false, List, [], ◌∷◌, ◌++◌, count_by, Option, None, Some, IfSome, IsSome, if◌then◌else◌, option_to_list, ⊤}
 use Rattle.std.specs.List.{IsDistinct}
-use Rattle.std.specs.Option.{option_map_or}
+use Rattle.std.specs.Option.{option_map, option_map_or}
 use Rattle.tx_types.specs.declared.waits.End.{End}
+use Rattle.tx_types.specs.declared.waits.End.TheVariants.{Satisfied, TimedOut, Aborted, Deleted, Gone}
 use Rattle.tx_types.specs.declared.waits.Totals.{Totals}
 use Rattle.suspend_lists.specs.ThreadList.{has}
 use Rattle.suspend_lists.specs.Wait.{place, place_count}
@@ -37,13 +38,19 @@ abbrev pub MayCallAll : WaitTable → List Call → Type 0
 MayCallAll w [] = ⊤
 MayCallAll w (c ∷ cs) = MayCall w c × MayCallAll (called w c) cs
 
--- the numbers of the waits that end, in order
-abbrev pub over_by : WaitTable → Call → List ℕ
+-- a wait that ended, by its number, and how
+pub record WaitEnd : Type 0 where
+  pub wait : ℕ
+  pub how : End
+
+-- the waits that end by a call, and by a list of calls, in order
+abbrev pub over_by : WaitTable → Call → List WaitEnd
 over_by w (Begin t x) = []
-over_by w (Finish t e) = option_to_list (number_of w t)
+over_by w (Finish t e) =
+    option_to_list (option_map (λ n. record { wait = n; how = e }) (number_of w t))
 over_by w (ToFront t) = []
 
-abbrev pub all_over : WaitTable → List Call → List ℕ
+abbrev pub all_over : WaitTable → List Call → List WaitEnd
 all_over w [] = []
 all_over w (c ∷ cs) = over_by w c ++ all_over (called w c) cs
 
@@ -66,8 +73,8 @@ RestoresKeepTheTable =
 -- where it sleeps or doesn't wait.
 abbrev pub AtOnePlace : Type 0
 AtOnePlace =
-    (w : WaitTable) (p q t : ℕ) → IsTable w
-    → has t (waiters w (Some p)) ≡ true → has t (waiters w (Some q)) ≡ true → p ≡ q
+    (w : WaitTable) (p q t : ℕ) → IsTable w → has t (waiters w (Some p)) ≡ true
+    → has t (waiters w (Some q)) ≡ true → p ≡ q
 
 abbrev pub OnceThere : Type 0
 OnceThere = (w : WaitTable) (p : ℕ) → IsTable w → IsDistinct nat_eq (waiters w (Some p))
@@ -84,9 +91,9 @@ abbrev pub CallsKeepItWhole : Type 0
 CallsKeepItWhole =
     (w : WaitTable) (c : Call) → IsTable w → MayCall w c → IsWhole w → IsWhole (called w c)
 
--- how often a number stands in a list, and how many threads are in the wait of that number
-abbrev pub times : ℕ → List ℕ → ℕ
-times n ns = count_by (λ m. m == n) ns
+-- how often the wait of a number ended, and how many threads are in it
+abbrev pub times : ℕ → List WaitEnd → ℕ
+times n over = count_by (λ d. d.wait == n) over
 
 abbrev pub has_number : ℕ → Option Pending → Bool
 has_number n o = option_map_or (λ p. p.number == n) o false
@@ -96,13 +103,13 @@ pending_times w n = count_by (has_number n) w.waits
 
 -- Each number below how many began is that of one pending wait, or of one that ended; no other
 -- number is of either.
-abbrev pub IsAccounted : WaitTable → List ℕ → Type 0
+abbrev pub IsAccounted : WaitTable → List WaitEnd → Type 0
 IsAccounted w over =
     (n : ℕ) → pending_times w n + times n over ≡ (if nat_lt n w.totals.begun then 1 else 0)
 
 abbrev pub CallsAccount : Type 0
 CallsAccount =
-    (w : WaitTable) (over : List ℕ) (c : Call) → IsTable w → MayCall w c → IsAccounted w over
+    (w : WaitTable) (over : List WaitEnd) (c : Call) → IsTable w → MayCall w c → IsAccounted w over
     → IsAccounted (called w c) (over ++ over_by w c)
 
 -- whatever was called since a table was new
@@ -114,5 +121,35 @@ HistoriesAccount =
 -- the number that the next wait gets is of no pending wait and of none that ended
 abbrev pub NextNumberIsNew : Type 0
 NextNumberIsNew =
-    (w : WaitTable) (over : List ℕ) → IsAccounted w over
+    (w : WaitTable) (over : List WaitEnd) → IsAccounted w over
     → (pending_times w w.totals.begun ≡ 0) × (times w.totals.begun over ≡ 0)
+
+-- the ends, by numbers that tell them apart
+abbrev pub end_number : End → ℕ
+end_number Satisfied = 0
+end_number TimedOut = 1
+end_number Aborted = 2
+end_number Deleted = 3
+end_number Gone = 4
+
+-- how many waits ended so
+abbrev pub ended_so : End → List WaitEnd → ℕ
+ended_so e over = count_by (λ d. end_number d.how == end_number e) over
+
+-- each total is the number of waits that ended so
+pub record IsCounted (x : Totals) (over : List WaitEnd) : Type 0 where
+  pub satisfied : x.satisfied ≡ ended_so Satisfied over
+  pub timed_out : x.timed_out ≡ ended_so TimedOut over
+  pub aborted : x.aborted ≡ ended_so Aborted over
+  pub deleted : x.deleted ≡ ended_so Deleted over
+  pub gone : x.gone ≡ ended_so Gone over
+
+abbrev pub CallsCount : Type 0
+CallsCount =
+    (w : WaitTable) (over : List WaitEnd) (c : Call) → MayCall w c → IsCounted w.totals over
+    → IsCounted (called w c).totals (over ++ over_by w c)
+
+abbrev pub HistoriesCount : Type 0
+HistoriesCount =
+    (cs : List Call) → MayCallAll new_table cs
+    → IsCounted (all_called new_table cs).totals (all_over new_table cs)

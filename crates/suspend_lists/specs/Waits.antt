@@ -24,8 +24,7 @@ new_table = record {
   waits = replicate 256 None;
 }
 
--- the wait that a thread is in, with its number; the two parts of it, and the place at which it
--- waits
+-- the wait that a thread is in, with its number; the two parts of it, and the place of the wait
 abbrev pub pending : WaitTable → ℕ → Option Pending
 pending w t = slice_index_or w.waits t None
 
@@ -82,11 +81,13 @@ restored w t x n = record w {
   waits = slice_set w.waits t (Some (record { wait = x; number = n }));
 }
 
+-- one wait more began
+abbrev pub one_more : WaitTable → WaitTable
+one_more w = record w { totals = record w.totals { begun = w.totals.begun + 1 } }
+
 -- a thread begins to wait: the number is how many began before
 abbrev pub begun : WaitTable → ℕ → Wait → WaitTable
-begun w t x =
-    restored (record w { totals = record w.totals { begun = w.totals.begun + 1 } }) t x
-    w.totals.begun
+begun w t x = restored (one_more w) t x w.totals.begun
 
 -- the wait of a thread ends
 abbrev pub ended : WaitTable → ℕ → End → WaitTable

@@ -1,7 +1,7 @@
 //! What holds of every table of waits, for the layers above: each function's contract is a law.
 //!
 //! Their bodies do nothing; a function calls one where its proof needs the law.
-ghost use Rattle.suspend_lists.specs.Laws.{CallsKeepTheTable, TotalsKeepTheTable, RestoresKeepTheTable, AtOnePlace, OnceThere, ElseNowhere, IsWhole, CallsKeepItWhole, CallsAccount, HistoriesAccount, NextNumberIsNew};
+ghost use Rattle.suspend_lists.specs.Laws.{CallsKeepTheTable, TotalsKeepTheTable, RestoresKeepTheTable, AtOnePlace, OnceThere, ElseNowhere, IsWhole, CallsKeepItWhole, CallsAccount, HistoriesAccount, NextNumberIsNew, CallsCount, HistoriesCount};
 ghost use Rattle.suspend_lists.specs.Waits.{IsTable, new_table};
 
 /// Each call keeps what holds of every table.
@@ -23,6 +23,12 @@ pub fn each_thread_waits_once()
 pub fn begun_is_pending_and_ended()
     ensures new { IsWhole new_table }
     ensures calls { CallsKeepItWhole }
+{}
+
+/// Each total is the number of waits that ended so.
+pub fn totals_count_the_ends()
+    ensures calls { CallsCount }
+    ensures histories { HistoriesCount }
 {}
 
 /// A number is given to one wait alone, which is pending until it ends once.

@@ -35,11 +35,8 @@ impl Model for Waits {
       waits = w.waits.items;
     } };
 
-    ghost invariant = { λ w. IsTable (record {
-      totals = w.totals;
-      lists = w.lists.items;
-      waits = w.waits.items;
-    }) };
+    ghost invariant = { λ w. IsTable
+        (record { totals = w.totals; lists = w.lists.items; waits = w.waits.items }) };
 }
 
 impl Waits {
@@ -78,8 +75,8 @@ impl Waits {
         self.waits[t.place()].as_ref().map(|p| p.number)
     }
 
-    /// The thread that has waited longest at a place, unless another was put first. Sleepers have no
-    /// order, so there is none for them.
+    /// The thread that has waited longest at a place, unless another was put first. Sleepers have
+    /// no order, so there is none for them.
     pub fn first(&self, on: On) -> Option<ThreadNo>
         ensures { result ≡ first_at self.now on }
     {

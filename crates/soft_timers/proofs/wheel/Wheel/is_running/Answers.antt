@@ -8,5 +8,7 @@ use Rattle.soft_timers.proofs.wheel.Wheel.is_running.Goals as goal
 pub returns : goal.returns
 returns c =
     let w : TimerTable = record { ticks = c.self.inside.ticks; armings = c.self.inside.armings; entries = c.self.inside.entries.items } in
-    let same : c.all_later.result ≡ list_all (λ (e : Armed). nat_lt w.ticks e.expiry) w.entries = subst (λ es. c.all_later.result ≡ list_all (λ (e : Armed). nat_lt w.ticks e.expiry) es) c.deref.ensures.value c.all_later.ensures in
-    subst (λ (v : TimerTable). (c.all_later.result ≡ true) ↔ IsRunning v) c.self.view_is (subst (λ (b : Bool). (b ≡ true) ↔ IsRunning w) (sym same) (runs_by_test w))
+    let same : c.all_later.result ≡ list_all (λ (e : Armed). nat_lt w.ticks e.expiry) w.entries =
+    subst (λ es. c.all_later.result ≡ list_all (λ (e : Armed). nat_lt w.ticks e.expiry) es) c.deref.ensures.value c.all_later.ensures in
+    subst (λ (v : TimerTable). (c.all_later.result ≡ true) ↔ IsRunning v) c.self.view_is
+    (subst (λ (b : Bool). (b ≡ true) ↔ IsRunning w) (sym same) (runs_by_test w))

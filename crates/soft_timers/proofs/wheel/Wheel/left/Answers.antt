@@ -11,5 +11,7 @@ overflow_sub-ticks c =
 pub overflow_cast-ticks : goal.overflow_cast-ticks
 overflow_cast-ticks c =
     let found : find (λ (e : Armed). e.id == c.args.id) c.self.inside.entries.items ≡ Some c.in_ok-e.e = search rules in
-    let near = find_has (λ e. e.expiry < c.self.inside.ticks + 2 ^ 32) (λ e. e.id == c.args.id) c.self.inside.entries.items c.in_ok-e.e found c.self.invariant.0.not_far in
+    let near =
+    find_has (λ e. e.expiry < c.self.inside.ticks + 2 ^ 32) (λ e. e.id == c.args.id)
+    c.self.inside.entries.items c.in_ok-e.e found c.self.invariant.0.not_far in
     omega arith

@@ -11,5 +11,7 @@ join-requires-clause-room c =
 
 pub invariant_of-self : goal.invariant_of-self
 invariant_of-self c =
-    let kept = restored_keeps c.args.self.now c.args.t c.args.w c.args.n (subst IsTable c.self.view_is c.self.invariant) (omega arith) c.requires.free c.join.ensures.place c.requires.given c.requires.unused c.requires.fits in
+    let kept =
+    restored_keeps c.args.self.now c.args.t c.args.w c.args.n (subst IsTable c.self.view_is c.self.invariant) (omega arith)
+    c.requires.free c.join.ensures.place c.requires.given c.requires.unused c.requires.fits in
     rw (c.join.ensures.after, c.place.ensures.same) (subst (λ (v : WaitTable). IsTable (restored v c.args.t c.args.w c.args.n)) (sym c.self.view_is) kept)
