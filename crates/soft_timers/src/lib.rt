@@ -15,6 +15,3 @@ pub use wheel::Wheel;
 
 /// How many timeouts and timers there are: one for each thread, and one for each timer object.
 pub const TIMERS: u16 = 512;
-
-#[cfg(test)]
-mod tests;

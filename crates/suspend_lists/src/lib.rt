@@ -22,6 +22,3 @@ pub const PLACES: usize = 272;
 
 /// How many threads there are at most.
 pub const THREADS: usize = 256;
-
-#[cfg(test)]
-mod tests;
