@@ -3,10 +3,11 @@ use Rattle.std.proofs.Common.{◌≡◌, ℕ, ◌+◌, ◌==◌, List, [], ◌�
 use Rattle.std.proofs.lemmas.List.{append-nil}
 use Rattle.std.proofs.lemmas.List.Sums.{sum_by-append}
 use Rattle.std.specs.Option.{IsSome, option_map}
+use Rattle.tx_types.specs.End.{WaitEnd}
 use Rattle.tx_types.specs.declared.waits.End.{End}
 use Rattle.tx_types.specs.declared.waits.End.TheVariants.{Satisfied, TimedOut, Aborted, Deleted, Gone}
 use Rattle.tx_types.specs.declared.waits.Totals.{Totals}
-use Rattle.suspend_lists.specs.Laws.{Call, Begin, Finish, ToFront, called, all_called, MayCallAll, WaitEnd, over_by, all_over, end_number, ended_so, IsCounted, CallsCount, HistoriesCount}
+use Rattle.suspend_lists.specs.Laws.{Call, Begin, Finish, ToFront, called, all_called, MayCallAll, over_by, all_over, end_number, ended_so, IsCounted, CallsCount, HistoriesCount}
 use Rattle.suspend_lists.specs.Waits.{WaitTable, new_table, pending, begun, counted}
 use Rattle.suspend_lists.specs.declared.wait.Pending.{Pending}
 

@@ -7,8 +7,9 @@ use Rattle.std.proofs.lemmas.List.Folds.{sum_by-replicate}
 use Rattle.std.proofs.lemmas.List.Sums.{sum_by-set, sum_by-append}
 use Rattle.std.specs.List.{slice_index_or, count_by, sum_by}
 use Rattle.std.specs.Option.{IsSome, option_map}
+use Rattle.tx_types.specs.End.{WaitEnd}
 use Rattle.tx_types.specs.declared.waits.End.{End}
-use Rattle.suspend_lists.specs.Laws.{Call, Begin, Finish, ToFront, called, MayCall, all_called, MayCallAll, WaitEnd, over_by, all_over, CallsKeepTheTable, TotalsKeepTheTable, RestoresKeepTheTable, AtOnePlace, OnceThere, ElseNowhere, IsWhole, CallsKeepItWhole, times, has_number, pending_times, IsAccounted, CallsAccount, HistoriesAccount, NextNumberIsNew}
+use Rattle.suspend_lists.specs.Laws.{Call, Begin, Finish, ToFront, called, MayCall, all_called, MayCallAll, over_by, all_over, CallsKeepTheTable, TotalsKeepTheTable, RestoresKeepTheTable, AtOnePlace, OnceThere, ElseNowhere, IsWhole, CallsKeepItWhole, times, has_number, pending_times, IsAccounted, CallsAccount, HistoriesAccount, NextNumberIsNew}
 use Rattle.suspend_lists.specs.Waits.{WaitTable, IsTable, new_table, pending, number_of, waits_at, begun, ended, pending_count, ended_count, counted}
 use Rattle.suspend_lists.specs.declared.wait.Pending.{Pending}
 use Rattle.suspend_lists.specs.declared.wait.Wait.{Wait}

@@ -2,6 +2,7 @@
 use Rattle.std.specs.Prelude.{ℕ, ◌≡◌, ◌≢◌, ◌+◌, ◌<◌, ◌≤◌, ◌==◌, nat_eq, nat_lt, Bool, true, false, List, [], ◌∷◌, ◌++◌, count_by, Option, None, Some, IfSome, IsSome, if◌then◌else◌, option_to_list, ⊤}
 use Rattle.std.specs.List.{IsDistinct}
 use Rattle.std.specs.Option.{option_map, option_map_or}
+use Rattle.tx_types.specs.End.{WaitEnd}
 use Rattle.tx_types.specs.declared.waits.End.{End}
 use Rattle.tx_types.specs.declared.waits.End.TheVariants.{Satisfied, TimedOut, Aborted, Deleted, Gone}
 use Rattle.tx_types.specs.declared.waits.Totals.{Totals}
@@ -37,11 +38,6 @@ all_called w (c ∷ cs) = all_called (called w c) cs
 abbrev pub MayCallAll : WaitTable → List Call → Type 0
 MayCallAll w [] = ⊤
 MayCallAll w (c ∷ cs) = MayCall w c × MayCallAll (called w c) cs
-
--- a wait that ended, by its number, and how
-pub record WaitEnd : Type 0 where
-  pub wait : ℕ
-  pub how : End
 
 -- the waits that end by a call, and by a list of calls, in order
 abbrev pub over_by : WaitTable → Call → List WaitEnd

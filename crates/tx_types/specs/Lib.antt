@@ -1,4 +1,5 @@
 pub mod Code
+pub mod End
 pub mod Kind
 pub mod Limits
 pub mod Line
