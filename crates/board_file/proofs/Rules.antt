@@ -8,7 +8,7 @@ use Rattle.std.proofs.lemmas.List.Sums.{sum_by_push}
 use Rattle.std.specs.Str.{bytes_eq}
 use Rattle.toml.specs.Data.{Data, Items, no_items, item, Members, get_member, as_str, as_array}
 use Rattle.board_file.specs.Board.{action_of, board_of, device_of, module_in, module_of, names_device, repeated, script_within, script_words, show_of}
-use Rattle.board_file.specs.Field.{◌>>=◌, Part, array_within, as_number, entries, forbidden, in_range, items_count, name_of, name_unless, named, nothing_else, optional, or_absent, passing, required, table_at, words_of}
+use Rattle.board_file.specs.Field.{◌>>=◌, Part, array_within, as_number, entries, entry_after, forbidden, in_range, items_count, name_of, name_unless, named, nothing_else, optional, or_absent, passing, required, table_at, words_of}
 use Rattle.board_file.specs.Path.{entry_path, key_path}
 use Rattle.board_file.specs.Rules.{IsBoard, IsShow}
 use Rattle.board_file.specs.declared.board.Board.{Board}
@@ -83,8 +83,7 @@ optional_counted high part key ds h =
 length-entries : {A : Type 0} (entry : Part → List A → Result A (List ℕ)) (key : List ℕ) (earlier : List A) (ds : Items) (xs : List A) → entries entry key earlier ds ≡ Ok xs → length xs ≡ length earlier + items_count ds
 length-entries entry key earlier no_items xs h = let same : earlier ≡ xs = cc in subst (λ ys. length ys ≡ length earlier + 0) same (omega arith)
 length-entries {A} entry key earlier (item d ds) xs h =
-    let t = then_ok (table_at (entry_path key (length earlier)) d) (λ part. entry part earlier >>= λ x. entries entry key (earlier ++ x ∷ []) ds) xs h in
-    let e = then_ok (entry t.0 earlier) (λ x. entries entry key (earlier ++ x ∷ []) ds) xs t.2 in
+    let e = then_ok (entry_after entry key earlier d) (λ x. entries entry key (earlier ++ x ∷ []) ds) xs h in
     let rest = length-entries entry key (earlier ++ e.0 ∷ []) ds xs e.2 in
     omega (arith, rest, length-append earlier (e.0 ∷ []))
 
@@ -92,9 +91,9 @@ length-entries {A} entry key earlier (item d ds) xs h =
 entries_keep : {A : Type 0} (P : List A → Type 0) (entry : Part → List A → Result A (List ℕ)) (key : List ℕ) → ((part : Part) (earlier : List A) (x : A) → P earlier → entry part earlier ≡ Ok x → P (earlier ++ x ∷ [])) → (earlier : List A) (ds : Items) (xs : List A) → P earlier → entries entry key earlier ds ≡ Ok xs → P xs
 entries_keep P entry key step earlier no_items xs before h = let same : earlier ≡ xs = cc in subst P same before
 entries_keep P entry key step earlier (item d ds) xs before h =
-    let t = then_ok (table_at (entry_path key (length earlier)) d) (λ part. entry part earlier >>= λ x. entries entry key (earlier ++ x ∷ []) ds) xs h in
-    let e = then_ok (entry t.0 earlier) (λ x. entries entry key (earlier ++ x ∷ []) ds) xs t.2 in
-    entries_keep P entry key step (earlier ++ e.0 ∷ []) ds xs (step t.0 earlier e.0 before e.1) e.2
+    let e = then_ok (entry_after entry key earlier d) (λ x. entries entry key (earlier ++ x ∷ []) ds) xs h in
+    let t = then_ok (table_at (entry_path key (length earlier)) d) (λ part. entry part earlier) e.0 e.1 in
+    entries_keep P entry key step (earlier ++ e.0 ∷ []) ds xs (step t.0 earlier e.0 before t.2) e.2
 
 -- the scripts so far have room for a script that was accepted
 script_fits : (before n : ℕ) (words script : List ℕ) → script_within before n words ≡ Some script → before + length script ≤ 65536

@@ -93,12 +93,17 @@ abbrev pub table_at : List ℕ → Data → Result Part (List ℕ)
 table_at path (table ms) = Ok (record { path = path; fields = ms })
 table_at path _ = Err path
 
--- the tables of an array, each read whole in turn by what came before it
+-- the entry of an array after these, read whole where it is a table
+abbrev pub entry_after : {A : Type 0} → (Part → List A → Result A (List ℕ)) → List ℕ → List A → Data → Result A (List ℕ)
+entry_after entry key earlier d = do
+  part ← table_at (entry_path key (length earlier)) d
+  entry part earlier
+
+-- the entries of an array, each read in turn by what came before it
 abbrev pub entries : {A : Type 0} → (Part → List A → Result A (List ℕ)) → List ℕ → List A → Items → Result (List A) (List ℕ)
 entries entry key earlier no_items = Ok earlier
 entries entry key earlier (item d ds) = do
-  part ← table_at (entry_path key (length earlier)) d
-  x ← entry part earlier
+  x ← entry_after entry key earlier d
   entries entry key (earlier ++ x ∷ []) ds
 
 -- the first key of a table that isn't among these is wrong; a table's members stand in byte order

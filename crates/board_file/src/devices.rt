@@ -5,7 +5,7 @@ ghost use Rattle.std.specs.Prelude.{◌≡◌, ◌+◌, ◌*◌, ◌≤◌, [], 
 ghost use Rattle.toml.specs.View.{view, array_view};
 ghost use Rattle.board_file.specs.Answer.{Reads, ReadsAs};
 ghost use Rattle.board_file.specs.Board.{action_of, device_of, names_device, repeated, script_within, script_words};
-ghost use Rattle.board_file.specs.Field.{required, named, name_unless, words_in, words_of, entries};
+ghost use Rattle.board_file.specs.Field.{required, named, name_unless, words_in, words_of, entries, entry_after};
 ghost use Rattle.board_file.specs.Path.{key_path};
 ghost use Rattle.board_file.specs.Part.{part_view, entries_view};
 
@@ -153,6 +153,24 @@ fn device(part: &Part, earlier: &[BoardDevice], before: usize) -> Result<BoardDe
     })
 }
 
+/// The device that an entry is, where these come before it, whose scripts have the given number of
+/// words.
+fn device_entry(
+    alloc: Global,
+    value: &Value,
+    earlier: &[BoardDevice],
+    before: usize,
+) -> Result<BoardDevice, BoardErr>
+    requires words { before ≡ script_words earlier.now }
+    requires most { before ≤ 65536 }
+    ensures device { Reads (entry_after device_of (codes "device") earlier.now (view value.now)) result }
+    ensures fits { IfOk result (λ d. before + length d.script ≤ 65536) }
+{
+    let path = entry_path(alloc, "device", earlier.len())?;
+    let part = table_at(alloc, path.as_str(), value)?;
+    device(&part, earlier, before)
+}
+
 /// The devices that the entries of an array are.
 fn device_entries(alloc: Global, array: &Array) -> Result<Vec<BoardDevice>, BoardErr>
     ensures { ReadsAs (λ v. v.items) (entries device_of (codes "device") [] (array_view array.now)) result }
@@ -160,9 +178,7 @@ fn device_entries(alloc: Global, array: &Array) -> Result<Vec<BoardDevice>, Boar
     let mut devices = Vec::new(alloc);
     let mut words = 0;
     for value in array {
-        let path = entry_path(alloc, "device", devices.len())?;
-        let part = table_at(alloc, path.as_str(), value)?;
-        let read = device(&part, &devices, words)?;
+        let read = device_entry(alloc, value, &devices, words)?;
         words += read.script.items().len();
         devices.push(read)?;
     }

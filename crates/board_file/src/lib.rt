@@ -19,6 +19,3 @@ pub use lists::{BoardDevices, BoardModules, BoardShares, BoardShows, Script};
 pub use read::read_board;
 pub use refusal::BoardErr;
 pub use text::{Path, PathText};
-
-#[cfg(test)]
-mod tests;

@@ -3,10 +3,10 @@
 //! No two modules have the same name, and the first wrong field ends the reading. The file of an
 //! image is only named: it is never opened here.
 ghost use Rattle.std.specs.Prelude.{◌≡◌, ◌≤◌, [], codes, length, vec_len, IfOk};
-ghost use Rattle.toml.specs.View.{array_view};
+ghost use Rattle.toml.specs.View.{view, array_view};
 ghost use Rattle.board_file.specs.Answer.{Reads};
 ghost use Rattle.board_file.specs.Board.{module_of, names_module};
-ghost use Rattle.board_file.specs.Field.{required, name_unless, entries};
+ghost use Rattle.board_file.specs.Field.{required, name_unless, entries, entry_after};
 ghost use Rattle.board_file.specs.Part.{part_view};
 
 use crate::board::BoardModule;
@@ -14,6 +14,7 @@ use crate::lists::BoardModules;
 use crate::part::{Part, entry_path, table_at};
 use crate::refusal::BoardErr;
 use std::alloc::Global;
+use toml::Value;
 use toml::value::Array;
 use tx_types::Name;
 
@@ -45,6 +46,19 @@ fn module(part: &Part, earlier: &[BoardModule]) -> Result<BoardModule, BoardErr>
     Ok(BoardModule { name, image, start })
 }
 
+/// The module that an entry is, where these come before it.
+fn module_entry(
+    alloc: Global,
+    value: &Value,
+    earlier: &[BoardModule],
+) -> Result<BoardModule, BoardErr>
+    ensures { Reads (entry_after module_of (codes "module") earlier.now (view value.now)) result }
+{
+    let path = entry_path(alloc, "module", earlier.len())?;
+    let part = table_at(alloc, path.as_str(), value)?;
+    module(&part, earlier)
+}
+
 /// The modules that the entries of an array are.
 pub(crate) fn modules(alloc: Global, array: &Array) -> Result<BoardModules, BoardErr>
     requires { vec_len array.now ≤ 16 }
@@ -53,10 +67,7 @@ pub(crate) fn modules(alloc: Global, array: &Array) -> Result<BoardModules, Boar
 {
     let mut modules = Vec::new(alloc);
     for value in array {
-        let path = entry_path(alloc, "module", modules.len())?;
-        let part = table_at(alloc, path.as_str(), value)?;
-        let read = module(&part, &modules)?;
-        modules.push(read)?;
+        modules.push(module_entry(alloc, value, &modules)?)?;
     }
     Ok(BoardModules::new(modules))
 }

@@ -7,7 +7,7 @@ ghost use Rattle.std.specs.Str.{bytes_eq};
 ghost use Rattle.toml.specs.View.{view, array_view};
 ghost use Rattle.board_file.specs.Answer.{Reads, ReadsAs};
 ghost use Rattle.board_file.specs.Board.{module_in, show_of};
-ghost use Rattle.board_file.specs.Field.{required, entries};
+ghost use Rattle.board_file.specs.Field.{required, entries, entry_after};
 ghost use Rattle.board_file.specs.Part.{part_view, entries_view};
 
 use crate::board::{BoardModule, BoardShow};
@@ -70,6 +70,21 @@ fn show(part: &Part, modules: &[BoardModule]) -> Result<BoardShow, BoardErr>
     })
 }
 
+/// The show that an entry is, where these come before it.
+fn show_entry(
+    alloc: Global,
+    modules: &[BoardModule],
+    value: &Value,
+    earlier: &[BoardShow],
+) -> Result<BoardShow, BoardErr>
+    requires { length modules.now ≤ 16 }
+    ensures { Reads (entry_after (λ part _. show_of modules.now part) (codes "show") earlier.now (view value.now)) result }
+{
+    let path = entry_path(alloc, "show", earlier.len())?;
+    let part = table_at(alloc, path.as_str(), value)?;
+    show(&part, modules)
+}
+
 /// The shows that the entries of an array are.
 fn show_entries(
     alloc: Global,
@@ -81,9 +96,7 @@ fn show_entries(
 {
     let mut shows = Vec::new(alloc);
     for value in array {
-        let path = entry_path(alloc, "show", shows.len())?;
-        let part = table_at(alloc, path.as_str(), value)?;
-        shows.push(show(&part, modules)?)?;
+        shows.push(show_entry(alloc, modules, value, &shows)?)?;
     }
     Ok(shows)
 }

@@ -3,7 +3,7 @@
 //! Each row of a table is a piece of a file, and what reading the whole file then answers. The
 //! files are put together in memory; none is opened.
 
-use crate::{Action, Board, BoardDevice, BoardErr, BoardModule, Path, PathText, read_board};
+use board_file::{Action, Board, BoardDevice, BoardErr, BoardModule, Path, PathText, read_board};
 use std::alloc::{AllocError, Global};
 use std::process::Abort;
 use std::test::Fail;
