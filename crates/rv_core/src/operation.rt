@@ -18,7 +18,7 @@ use crate::hart::Hart;
 use rv_decode::Instr;
 
 /// An operation, with the values of the registers that it takes.
-#[derive(Clone, Copy, Debug, PartialEq, Eq)]
+#[derive(Clone, Copy)]
 pub(crate) enum Operation {
     /// To write a register and go on.
     Write { rd: u8, value: u32 },

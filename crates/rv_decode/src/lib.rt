@@ -16,7 +16,7 @@ pub use encoding::encode;
 /// `rd`, `rs1` and `rs2` are register numbers and `amount` a number of bits, each below 32. `imm` is the
 /// immediate after sign extension: a distance in bytes in jumps and branches, and in `Lui` and `Auipc` the
 /// upper twenty bits with twelve zeros below.
-#[derive(Clone, Copy, Debug, PartialEq, Eq)]
+#[derive(Clone, Copy)]
 pub enum Instr {
     Lui { rd: u8, imm: i32 },
     Auipc { rd: u8, imm: i32 },
