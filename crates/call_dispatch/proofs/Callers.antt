@@ -2,24 +2,26 @@
 use Rattle.std.proofs.Common.{◌≡◌, ◌≢◌, ℕ, ◌<◌, ◌≤◌, ◌==◌, ◌||◌, Bool, true, false, not, List, length, Option, None, Some, refl, sym, ap, ◌∙◌, subst, ⊎_elim, arith}
 use Rattle.std.specs.List.{slice_index_or}
 use Rattle.std.proofs.lemmas.Bool.{and_parts, cases_eq, cases_lt, cond_both, eqb-true, false≢true, not-false}
-use Rattle.std.proofs.lemmas.List.{get_or-set_same, get_or-set_other, get_or_past, set_past}
+use Rattle.std.proofs.lemmas.List.{get_or-set_same, get_or-set_other, set_past}
 use Rattle.tx_types.specs.Reference.{slot_of}
 use Rattle.tx_types.specs.State.{state_number}
 use Rattle.tx_types.specs.declared.kind.Kind.TheVariants.{Thread as ThreadKind}
 use Rattle.tx_types.specs.declared.state.State.{State}
 use Rattle.tx_types.specs.declared.state.State.TheVariants.{Ready, Suspended}
-use Rattle.object_grants.specs.Slot.{is_in, is_kind, is_own_empty, is_empty_for, owns, free_slot, slot_state_number}
+use Rattle.object_grants.specs.Slot.{is_in, is_kind, is_own_empty, is_empty_for, owns, slot_state_number}
 use Rattle.object_grants.specs.Table.{names, named as names_slot, slot}
 use Rattle.object_grants.specs.declared.slot.SlotState.TheVariants.{Empty, Live}
-use Rattle.kernel_state.specs.Kernel.{thread, with_thread, has_thread, is_thread, module_of, placed}
-use Rattle.kernel_state.specs.Laws.{RunningIsReady, ReadyIsThread}
+use Rattle.region_guard.specs.Memory.{Memory}
+use Rattle.kernel_state.specs.Change.{Change, quiet}
+use Rattle.kernel_state.specs.Kernel.{thread, with_thread, is_thread, module_of, placed}
+use Rattle.kernel_state.specs.Laws.{RunningIsReady, ReadyIsThread, ThreadIsRight}
 use Rattle.kernel_state.specs.Outcome.{refused}
 use Rattle.kernel_state.specs.Sound.{IsSound, IsEntry, IsThread}
 use Rattle.kernel_state.specs.Tests.{reserved}
 use Rattle.kernel_state.specs.Thread.{blank_thread, is_over, is_state, is_waiting}
+use Rattle.kernel_state.specs.ThreadChanges.{started, suspended, ended, reset, with_fresh}
 use Rattle.kernel_state.specs.declared.kernel.Kernel.{Kernel}
 use Rattle.kernel_state.specs.declared.thread.Thread.{Thread}
-use Rattle.thread_calls.specs.Changes.{started, suspended, ended, reset}
 use Rattle.thread_calls.specs.Create.{created, spec_of}
 use Rattle.thread_calls.specs.declared.create.ThreadBlock.{ThreadBlock}
 
@@ -33,13 +35,11 @@ abbrev pub KeepsCaller : Kernel → ℕ → Kernel → Type 0
 KeepsCaller k by now = IsCaller k by → (thread now by).hart ≡ (thread k by).hart
 
 -- what runs is a caller
-pub running_calls : RunningIsReady → ReadyIsThread → (k : Kernel) (by : ℕ) → IsSound k → k.ready.run ≡ Some by → IsCaller k by
-running_calls is_ready_then is_thread_then k by sound runs =
+pub running_calls : RunningIsReady → ReadyIsThread → ThreadIsRight → (k : Kernel) (by : ℕ) → IsSound k → k.ready.run ≡ Some by → IsCaller k by
+running_calls is_ready_then is_thread_then is_right_then k by sound runs =
     let ready = is_ready_then k by sound runs in
     let live = is_thread_then k by sound ready in
-    let below : by < 256 = ⊎_elim (λ below. below) (λ past.
-    absurd (false≢true (sym (ap has_thread (get_or_past k.objects by (free_slot 0) (omega (arith, sound.slots)))) ∙ live))) (cases_lt by 256) in
-    let right : IsThread k by = subst (IsEntry k by) live (sound.entries by below) in
+    let right : IsThread k by = subst (IsEntry k by) live (is_right_then k by sound live).1.entry in
     record { live = live; state = eqb-true (state_number (thread k by).state) 0 (sym right.ready ∙ ready) }
 
 -- a thread changes, and keeps its registers
@@ -57,16 +57,19 @@ hart_kept k by t now same = ⊎_elim
 pub other_kept : (k : Kernel) (by t : ℕ) (now : Thread) → by ≢ t → (thread (with_thread k t now) by).hart ≡ (thread k by).hart
 other_kept k by t now other = ap (λ (x : Thread). x.hart) (get_or-set_other k.threads t by now blank_thread other)
 
-pub suspended_kept : (k : Kernel) (by t : ℕ) → (thread (suspended k t) by).hart ≡ (thread k by).hart
-suspended_kept k by t =
+pub started_kept : (k : Kernel) (g : Memory) (by t : ℕ) → (thread (started k g t).kernel by).hart ≡ (thread k by).hart
+started_kept k g by t = hart_kept (with_fresh k t false) by t _ refl ∙ hart_kept k by t (record (thread k t) { fresh = false }) refl
+
+pub suspended_kept : (k : Kernel) (g : Memory) (by t : ℕ) → (thread (suspended k g t).kernel by).hart ≡ (thread k by).hart
+suspended_kept k g by t =
     cond_both (is_state (thread k t).state Ready) _ _ (λ (j : Kernel). (thread j by).hart ≡ (thread k by).hart)
     (λ ready. hart_kept k by t (record (thread k t) { state = Suspended }) refl)
     (λ not_ready. cond_both (is_waiting (thread k t).state) _ _ (λ (j : Kernel). (thread j by).hart ≡ (thread k by).hart)
     (λ waits. hart_kept k by t (record (thread k t) { held = true }) refl)
     (λ rests. refl))
 
-pub ended_kept : (k : Kernel) (by t : ℕ) (state : State) → (thread (ended k t state) by).hart ≡ (thread k by).hart
-ended_kept k by t state =
+pub ended_kept : (k : Kernel) (g : Memory) (by t : ℕ) (state : State) → (thread (ended k g t state).kernel by).hart ≡ (thread k by).hart
+ended_kept k g by t state =
     cond_both (is_over (thread k t).state) k _ (λ (j : Kernel). (thread j by).hart ≡ (thread k by).hart)
     (λ over. refl)
     (λ runs. hart_kept k by t (record (thread k t) { state = state; held = false }) refl)
@@ -76,8 +79,8 @@ passed : (b : Bool) (c : ℕ) → refused b c ≡ None → b ≡ false
 passed b c free = cond_both b (Some c) None (λ (o : Option ℕ). o ≡ None → b ≡ false) (λ yes same. cc) (λ no same. no) free
 
 -- a thread that is over isn't the caller
-pub reset_kept : (k : Kernel) (by t c : ℕ) → refused (not (is_over (thread k t).state)) c ≡ None → KeepsCaller k by (reset k t)
-reset_kept k by t c free caller =
+pub reset_kept : (k : Kernel) (g : Memory) (by t c : ℕ) → refused (not (is_over (thread k t).state)) c ≡ None → KeepsCaller k by (reset k g t).kernel
+reset_kept k g by t c free caller =
     let over : is_over (thread k t).state ≡ true = not-false (is_over (thread k t).state) (passed (not (is_over (thread k t).state)) c free) in
     other_kept k by t (record (thread k t) { hart = (thread k t).opening; state = Suspended; left = (thread k t).slice; fresh = true })
     (λ (same : by ≡ t). false≢true (sym (ap (λ n. (n == 1) || (n == 2)) caller.state) ∙ subst (λ n. is_over (thread k n).state ≡ true) (sym same) over))
@@ -95,14 +98,20 @@ reserved_is_empty k by r o found =
     (λ no same. cc)
     found
 
--- a thread that is created isn't the caller
-pub created_kept : (k : Kernel) (by r o : ℕ) (name : List ℕ) (b : ThreadBlock) → reserved k by r ThreadKind ≡ Some o → KeepsCaller k by (created k by o name b)
+-- a thread that is created isn't the caller, and no byte changes
+pub created_kept : (k : Kernel) (g : Memory) (by r o : ℕ) (name : List ℕ) (b : ThreadBlock) → reserved k by r ThreadKind ≡ Some o → KeepsCaller k by (created k g by o name b).kernel
 unfolding created
-created_kept k by r o name b found caller =
+created_kept k g by r o name b found caller =
     let empty = eqb-true (slot_state_number (slot k.objects o).state) 1 (reserved_is_empty k by r o found) in
     let live = eqb-true (slot_state_number (slot k.objects by).state) 2 (and_parts (is_in Live (slot k.objects by)) (is_kind ThreadKind (slot k.objects by)) caller.live).0 in
     let other : by ≢ o = λ same. false≢true (ap (λ n. n == 1) (sym live ∙ (ap (λ n. slot_state_number (slot k.objects n).state) same ∙ empty))) in
     let now = placed k o name (spec_of k by b) in
     let made = other_kept k by o _ other in
-    cond_both (b.auto == 1) (started now o) now (λ (j : Kernel). (thread j by).hart ≡ (thread k by).hart)
-    (λ starts. other_kept now by o _ other ∙ made) (λ rests. made)
+    cond_both (b.auto == 1) (started now g o) (quiet now g) (λ (c : Change). (thread c.kernel by).hart ≡ (thread k by).hart)
+    (λ starts. started_kept now g by o ∙ made) (λ rests. made)
+
+pub created_memory : (k : Kernel) (g : Memory) (by o : ℕ) (name : List ℕ) (b : ThreadBlock) → (created k g by o name b).memory ≡ g
+unfolding created
+created_memory k g by o name b =
+    let now = placed k o name (spec_of k by b) in
+    cond_both (b.auto == 1) (started now g o) (quiet now g) (λ (c : Change). c.memory ≡ g) (λ starts. refl) (λ rests. refl)

@@ -6,15 +6,16 @@ use Rattle.std.proofs.lemmas.List.{get_or-set_same, get_or-set_other, set_past}
 use Rattle.tx_types.specs.Code.{feature_not_enabled}
 use Rattle.rv_core.specs.Hart.{HartState, with_register}
 use Rattle.kernel_state.specs.Kernel.{thread}
-use Rattle.kernel_state.specs.Laws.{RunningIsReady, ReadyIsThread}
-use Rattle.kernel_state.specs.Outcome.{Outcome, found}
+use Rattle.kernel_state.specs.Laws.{RunningIsReady, ReadyIsThread, ThreadIsRight}
+use Rattle.kernel_state.specs.Outcome.{Outcome, answering, found}
+use Rattle.kernel_state.specs.Registers.{arguments, number_asked, with_a0}
 use Rattle.kernel_state.specs.Thread.{blank_thread}
 use Rattle.kernel_state.specs.declared.answer.Answer.{Answer}
 use Rattle.kernel_state.specs.declared.answer.Answer.TheVariants.{Code, Value, Waits, Ended}
 use Rattle.kernel_state.specs.declared.kernel.Kernel.{Kernel}
 use Rattle.kernel_state.specs.declared.thread.Thread.{Thread}
 use Rattle.call_dispatch.specs.Caller.{CallChangesA0Alone, ChangesA0Alone}
-use Rattle.call_dispatch.specs.Ecall.{arguments, dispatched, number_asked, with_a0, with_answer}
+use Rattle.call_dispatch.specs.Ecall.{dispatched, with_answer}
 use Rattle.call_dispatch.specs.Laws.{CallWritesItsResultAlone, RefusalChangesNothing, RefusedCallChangesA0Alone, NoRowChangesA0Alone}
 use Rattle.call_dispatch.specs.Rows.{call_row, served}
 use Rattle.call_dispatch.specs.declared.service.Service.{Service}
@@ -30,7 +31,7 @@ refusal_changes_nothing k g by n a c same no_success not_lifted = (call_is_row n
 
 -- an outcome with its answer in a thread's a0
 abbrev answer_put : ℕ → Outcome → Outcome
-answer_put t o = record o { kernel = with_answer o.kernel t o.answer }
+answer_put t o = answering (record o.change { kernel = with_answer o.change.kernel t o.answer }) o.answer
 
 pub refused_call_changes_a0_alone : RefusedCallChangesA0Alone
 unfolding dispatched with_answer
@@ -66,10 +67,10 @@ answer_is_put k t (Value v) = a0_put k t v
 answer_is_put k t Waits = none_put (thread k t).hart
 answer_is_put k t Ended = none_put (thread k t).hart
 
-pub call_changes_a0_alone : RunningIsReady → ReadyIsThread → CallChangesA0Alone
+pub call_changes_a0_alone : RunningIsReady → ReadyIsThread → ThreadIsRight → CallChangesA0Alone
 unfolding dispatched
-call_changes_a0_alone is_ready is_thread k g t sound runs =
+call_changes_a0_alone is_ready is_thread is_right k g t sound runs =
     let h = (thread k t).hart in
     let o = call_row (number_asked h) k g t (arguments h) in
-    let keeps = (call_is_row (number_asked h) k g t (arguments h)).caller (running_calls is_ready is_thread k t sound runs) in
-    subst (λ (was : HartState). ChangesA0Alone was (thread (with_answer o.kernel t o.answer) t).hart) keeps (answer_is_put o.kernel t o.answer)
+    let keeps = (call_is_row (number_asked h) k g t (arguments h)).caller (running_calls is_ready is_thread is_right k t sound runs) in
+    subst (λ (was : HartState). ChangesA0Alone was (thread (with_answer o.change.kernel t o.answer) t).hart) keeps (answer_is_put o.change.kernel t o.answer)

@@ -11,22 +11,25 @@ use Rattle.object_grants.specs.Table.{ref_of, named as names_slot, after_dealloc
 use Rattle.ready_maps.specs.Moves.{yielded}
 use Rattle.region_guard.specs.Memory.{Memory}
 use Rattle.region_guard.specs.declared.region.Access.TheVariants.{Load, Store}
-use Rattle.kernel_state.specs.Kernel.{thread, module_of, removed}
+use Rattle.kernel_state.specs.Kernel.{thread, module_of, removed_thread}
+use Rattle.kernel_state.specs.Change.{quiet}
 use Rattle.kernel_state.specs.Outcome.{found, refused}
 use Rattle.kernel_state.specs.Tests.{named, reserved, owner_refusal, caller_refusal}
+use Rattle.kernel_state.specs.Registers.{arg}
 use Rattle.kernel_state.specs.Thread.{is_over, is_state}
+use Rattle.kernel_state.specs.ThreadChanges.{started, suspended, with_held, ended, reset}
 use Rattle.kernel_state.specs.declared.answer.Answer.TheVariants.{Code, Value, Ended}
 use Rattle.kernel_state.specs.declared.kernel.Kernel.{Kernel}
-use Rattle.thread_calls.specs.Changes.{started, suspended, with_held, ended, reset, with_user_threshold, with_user_priority, with_slice, thread_info}
 use Rattle.thread_calls.specs.Create.{block_at, block_refusal, created}
+use Rattle.thread_calls.specs.Numbers.{with_user_threshold, with_user_priority, with_slice, thread_info}
 use Rattle.thread_calls.specs.ObjectRows.{allocation, granting, object_allocate_row, object_deallocate_row, object_pointer_get_row}
-use Rattle.thread_calls.specs.ThreadRows.{arg, end_answer, creation, resumption, starting, threshold_change, priority_change, slice_change, thread_create_row, thread_delete_row, thread_terminate_row, thread_suspend_row, thread_resume_row, thread_relinquish_row, thread_identify_row, thread_info_get_row, thread_preemption_change_row, thread_priority_change_row, thread_time_slice_change_row, thread_reset_row, thread_complete_row}
+use Rattle.thread_calls.specs.ThreadRows.{end_answer, creation, resumption, starting, threshold_change, priority_change, slice_change, thread_create_row, thread_delete_row, thread_terminate_row, thread_suspend_row, thread_resume_row, thread_relinquish_row, thread_identify_row, thread_info_get_row, thread_preemption_change_row, thread_priority_change_row, thread_time_slice_change_row, thread_reset_row, thread_complete_row}
 use Rattle.call_dispatch.specs.Results.{Range, call_result, if_allowed, bytes_at, result_range}
 use Rattle.call_dispatch.specs.Rows.{call_row, served}
 use Rattle.call_dispatch.specs.Service.{service_of}
 use Rattle.call_dispatch.specs.declared.service.Service.{Service}
 use Rattle.call_dispatch.specs.declared.service.Service.TheVariants.{ObjectAllocate, ObjectDeallocate, ObjectPointerGet, ThreadCreate, ThreadDelete, ThreadTerminate, ThreadSuspend, ThreadResume, ThreadRelinquish, ThreadIdentify, ThreadInfoGet, ThreadPreemptionChange, ThreadPriorityChange, ThreadTimeSliceChange, ThreadReset, ThreadComplete}
-use Rattle.call_dispatch.proofs.Callers.{hart_kept, suspended_kept, ended_kept, reset_kept, created_kept}
+use Rattle.call_dispatch.proofs.Callers.{hart_kept, started_kept, suspended_kept, ended_kept, reset_kept, created_kept, created_memory}
 use Rattle.call_dispatch.proofs.Steps.{IsRow, IsNoRefusal, answered_row, changed_row, done_row, written_row, unless_row, found_row, given_row, either_row, success_is_no_refusal, lifted_is_no_refusal, value_is_no_refusal, ended_is_no_refusal}
 
 object_allocate_is_row : (k : Kernel) (g : Memory) (by : ℕ) (a : List ℕ) → IsRow (if_allowed g (module_of k by) (bytes_at (arg a 1) 4)) k g by (object_allocate_row k g by a)
@@ -44,7 +47,7 @@ unfolding object_deallocate_row
 object_deallocate_is_row r k g by a =
     let m = module_of k by in
     either_row r k g by (names_slot k.objects (arg a 0) (is_own_empty m)) _ _
-    (done_row r k g by (record k { objects = after_deallocate k.objects m (arg a 0) }) (λ calls. refl))
+    (done_row r k g by (quiet (record k { objects = after_deallocate k.objects m (arg a 0) }) g) refl (λ calls. refl))
     (answered_row r k g by ptr_error)
 
 object_pointer_get_is_row : (k : Kernel) (g : Memory) (by : ℕ) (a : List ℕ) → IsRow (if_allowed g (module_of k by) (bytes_at (arg a 2) 4)) k g by (object_pointer_get_row k g by a)
@@ -65,7 +68,7 @@ thread_create_is_row r k g by a =
     given_row r k g by (name_at g (module_of k by) (arg a 1)) _ (λ name.
     unless_row r k g by (caller_refusal k g by Load (arg a 2) 32) _ (λ free.
     unless_row r k g by (block_refusal k g by (block_at g (arg a 2))) _ (λ right.
-    done_row r k g by (created k by o name (block_at g (arg a 2))) (created_kept k by (arg a 0) o name (block_at g (arg a 2)) at)))))
+    done_row r k g by (created k g by o name (block_at g (arg a 2))) (created_memory k g by o name (block_at g (arg a 2))) (created_kept k g by (arg a 0) o name (block_at g (arg a 2)) at)))))
 
 thread_delete_is_row : (r : Option Range) (k : Kernel) (g : Memory) (by : ℕ) (a : List ℕ) → IsRow r k g by (thread_delete_row k g by a)
 unfolding thread_delete_row
@@ -73,7 +76,7 @@ thread_delete_is_row r k g by a =
     found_row r k g by thread_error (named k by (arg a 0) Thread) _ (λ t at.
     unless_row r k g by (owner_refusal k by t) _ (λ own.
     unless_row r k g by (refused (not (is_over (thread k t).state)) delete_error) _ (λ over.
-    done_row r k g by (removed k t) (λ calls. refl))))
+    done_row r k g by (quiet (removed_thread k t) g) refl (λ calls. refl))))
 
 -- who ends itself gets no answer, and another thread's end is a success
 end_is_no_refusal : (by t : ℕ) → IsNoRefusal (end_answer by t)
@@ -83,31 +86,31 @@ thread_terminate_is_row : (r : Option Range) (k : Kernel) (g : Memory) (by : ℕ
 unfolding thread_terminate_row
 thread_terminate_is_row r k g by a =
     found_row r k g by thread_error (named k by (arg a 0) Thread) _ (λ t at.
-    changed_row r k g by (ended k t Terminated) (end_answer by t) (end_is_no_refusal by t) (λ calls. ended_kept k by t Terminated))
+    changed_row r k g by (ended k g t Terminated) (end_answer by t) (end_is_no_refusal by t) refl (λ calls. ended_kept k g by t Terminated))
 
 thread_suspend_is_row : (r : Option Range) (k : Kernel) (g : Memory) (by : ℕ) (a : List ℕ) → IsRow r k g by (thread_suspend_row k g by a)
 unfolding thread_suspend_row
 thread_suspend_is_row r k g by a =
     found_row r k g by thread_error (named k by (arg a 0) Thread) _ (λ t at.
     unless_row r k g by (refused (is_over (thread k t).state) suspend_error) _ (λ runs.
-    done_row r k g by (suspended k t) (λ calls. suspended_kept k by t)))
+    done_row r k g by (suspended k g t) refl (λ calls. suspended_kept k g by t)))
 
 thread_resume_is_row : (r : Option Range) (k : Kernel) (g : Memory) (by : ℕ) (a : List ℕ) → IsRow r k g by (thread_resume_row k g by a)
 unfolding thread_resume_row resumption starting
 thread_resume_is_row r k g by a =
     found_row r k g by thread_error (named k by (arg a 0) Thread) _ (λ t at.
     either_row r k g by (thread k t).held _ _
-    (changed_row r k g by (with_held k t false) (Code suspend_lifted) lifted_is_no_refusal (λ calls. hart_kept k by t (record (thread k t) { held = false }) refl))
+    (changed_row r k g by (quiet (with_held k t false) g) (Code suspend_lifted) lifted_is_no_refusal refl (λ calls. hart_kept k by t (record (thread k t) { held = false }) refl))
     (unless_row r k g by (refused (not (is_state (thread k t).state Suspended)) resume_error) _ (λ rests.
-    done_row r k g by (started k t) (λ calls. hart_kept k by t _ refl))))
+    done_row r k g by (started k g t) refl (λ calls. started_kept k g by t))))
 
 thread_relinquish_is_row : (r : Option Range) (k : Kernel) (g : Memory) (by : ℕ) (a : List ℕ) → IsRow r k g by (thread_relinquish_row k g by a)
 unfolding thread_relinquish_row
-thread_relinquish_is_row r k g by a = done_row r k g by (record k { ready = yielded k.ready }) (λ calls. refl)
+thread_relinquish_is_row r k g by a = done_row r k g by (quiet (record k { ready = yielded k.ready }) g) refl (λ calls. refl)
 
 thread_identify_is_row : (r : Option Range) (k : Kernel) (g : Memory) (by : ℕ) (a : List ℕ) → IsRow r k g by (thread_identify_row k g by a)
 unfolding thread_identify_row
-thread_identify_is_row r k g by a = changed_row r k g by k (Value (ref_of k.objects by)) (value_is_no_refusal (ref_of k.objects by)) (λ calls. refl)
+thread_identify_is_row r k g by a = changed_row r k g by (quiet k g) (Value (ref_of k.objects by)) (value_is_no_refusal (ref_of k.objects by)) refl (λ calls. refl)
 
 thread_info_get_is_row : (k : Kernel) (g : Memory) (by : ℕ) (a : List ℕ) → IsRow (if_allowed g (module_of k by) (bytes_at (arg a 1) 32)) k g by (thread_info_get_row k g by a)
 unfolding thread_info_get_row
@@ -152,11 +155,11 @@ unfolding thread_reset_row
 thread_reset_is_row r k g by a =
     found_row r k g by thread_error (named k by (arg a 0) Thread) _ (λ t at.
     unless_row r k g by (refused (not (is_over (thread k t).state)) not_done) _ (λ over.
-    done_row r k g by (reset k t) (reset_kept k by t not_done over)))
+    done_row r k g by (reset k g t) refl (reset_kept k g by t not_done over)))
 
 thread_complete_is_row : (r : Option Range) (k : Kernel) (g : Memory) (by : ℕ) (a : List ℕ) → IsRow r k g by (thread_complete_row k g by a)
 unfolding thread_complete_row
-thread_complete_is_row r k g by a = changed_row r k g by (ended k by Completed) Ended ended_is_no_refusal (λ calls. ended_kept k by by Completed)
+thread_complete_is_row r k g by a = changed_row r k g by (ended k g by Completed) Ended ended_is_no_refusal refl (λ calls. ended_kept k g by by Completed)
 
 served_is_row : (s : Service) (k : Kernel) (g : Memory) (by : ℕ) (a : List ℕ) → IsRow (if_allowed g (module_of k by) (result_range s a)) k g by (served s k g by a)
 unfolding served

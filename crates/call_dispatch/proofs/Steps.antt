@@ -1,12 +1,13 @@
 -- The parts of a row: each keeps that a row writes its result alone, that a refusal comes with no change, and that the caller
 -- has its registers afterwards.
-use Rattle.std.proofs.Common.{◌≡◌, ◌≢◌, ℕ, ◌*◌, ◌<◌, Bool, List, length, Option, None, Some, Result, Ok, Err, refl, ap, cond}
+use Rattle.std.proofs.Common.{◌≡◌, ◌≢◌, ℕ, ◌*◌, ◌<◌, Bool, List, length, Option, None, Some, Result, Ok, Err, refl, ap, subst, sym, cond}
 use Rattle.std.proofs.lemmas.Bool.{cond_both}
 use Rattle.tx_types.specs.Code.{success, suspend_lifted}
 use Rattle.call_arguments.specs.Pointers.{pointer_refusal}
 use Rattle.call_arguments.specs.Words.{with_words}
 use Rattle.region_guard.specs.Memory.{Memory, IsSound}
 use Rattle.region_guard.specs.declared.region.Access.TheVariants.{Store}
+use Rattle.kernel_state.specs.Change.{Change, quiet}
 use Rattle.kernel_state.specs.Outcome.{Outcome, answering, answered, done, unless, found, given}
 use Rattle.kernel_state.specs.declared.answer.Answer.{Answer}
 use Rattle.kernel_state.specs.declared.answer.Answer.TheVariants.{Code, Value, Ended}
@@ -33,9 +34,9 @@ ended_is_no_refusal c same no_success not_lifted = cc
 
 -- what the outcome of each row keeps, where r is where its result may be written
 pub record IsRow (r : Option Range) (k : Kernel) (g : Memory) (by : ℕ) (o : Outcome) : Type 0 where
-  pub alone : AllowedIsWrittenAlone → IsSound g → WritesAlone r g o.memory
+  pub alone : AllowedIsWrittenAlone → IsSound g → WritesAlone r g o.change.memory
   pub refusal : (c : ℕ) → o.answer ≡ Code c → c ≢ success → c ≢ suspend_lifted → o ≡ answered k g c
-  pub caller : KeepsCaller k by o.kernel
+  pub caller : KeepsCaller k by o.change.kernel
 
 pub answered_row : (r : Option Range) (k : Kernel) (g : Memory) (by c : ℕ) → IsRow r k g by (answered k g c)
 answered_row r k g by c = record {
@@ -45,20 +46,20 @@ answered_row r k g by c = record {
 }
 
 -- the kernel changes, and memory stays
-pub changed_row : (r : Option Range) (k : Kernel) (g : Memory) (by : ℕ) (now : Kernel) (answer : Answer) → IsNoRefusal answer → KeepsCaller k by now
-    → IsRow r k g by (answering now g answer)
-changed_row r k g by now answer no_refusal keeps = record {
-  alone = λ writes sound. none_written r g;
-  refusal = λ c same no_success not_lifted. absurd (no_refusal c same no_success not_lifted);
+pub changed_row : (r : Option Range) (k : Kernel) (g : Memory) (by : ℕ) (now : Change) (answer : Answer) → IsNoRefusal answer → now.memory ≡ g → KeepsCaller k by now.kernel
+    → IsRow r k g by (answering now answer)
+changed_row r k g by now answer no_refusal same keeps = record {
+  alone = λ writes sound. subst (WritesAlone r g) (sym same) (none_written r g);
+  refusal = λ c is_c no_success not_lifted. absurd (no_refusal c is_c no_success not_lifted);
   caller = keeps;
 }
 
-pub done_row : (r : Option Range) (k : Kernel) (g : Memory) (by : ℕ) (now : Kernel) → KeepsCaller k by now → IsRow r k g by (done now g)
-done_row r k g by now keeps = changed_row r k g by now (Code success) success_is_no_refusal keeps
+pub done_row : (r : Option Range) (k : Kernel) (g : Memory) (by : ℕ) (now : Change) → now.memory ≡ g → KeepsCaller k by now.kernel → IsRow r k g by (done now)
+done_row r k g by now same keeps = changed_row r k g by now (Code success) success_is_no_refusal same keeps
 
 -- the kernel changes, and words are written to a pointer that isn't refused
 pub written_row : (k : Kernel) (g : Memory) (by : ℕ) (now : Kernel) (m x : ℕ) (ws : List ℕ) → 0 < length ws → pointer_refusal g m Store x (4 * length ws) ≡ None
-    → KeepsCaller k by now → IsRow (if_allowed g m (bytes_at x (4 * length ws))) k g by (done now (with_words g x ws))
+    → KeepsCaller k by now → IsRow (if_allowed g m (bytes_at x (4 * length ws))) k g by (done (quiet now (with_words g x ws)))
 written_row k g by now m x ws some free keeps = record {
   alone = λ writes sound. writes g m x ws sound some free;
   refusal = λ c same no_success not_lifted. absurd (success_is_no_refusal c same no_success not_lifted);

@@ -16,4 +16,4 @@ pub record ChangesA0Alone (h now : HartState) : Type 0 where
 abbrev pub CallChangesA0Alone : Type 0
 CallChangesA0Alone =
     (k : Kernel) (g : Memory) (t : ℕ) → IsSound k → k.ready.run ≡ Some t
-    → ChangesA0Alone (thread k t).hart (thread (dispatched k g t).kernel t).hart
+    → ChangesA0Alone (thread k t).hart (thread (dispatched k g t).change.kernel t).hart

@@ -4,9 +4,10 @@ use Rattle.tx_types.specs.Code.{success, suspend_lifted, feature_not_enabled}
 use Rattle.region_guard.specs.Memory.{Memory, IsSound}
 use Rattle.kernel_state.specs.Kernel.{thread}
 use Rattle.kernel_state.specs.Outcome.{answered}
+use Rattle.kernel_state.specs.Registers.{number_asked, with_a0}
 use Rattle.kernel_state.specs.declared.answer.Answer.TheVariants.{Code}
 use Rattle.kernel_state.specs.declared.kernel.Kernel.{Kernel}
-use Rattle.call_dispatch.specs.Ecall.{number_asked, with_a0, dispatched}
+use Rattle.call_dispatch.specs.Ecall.{dispatched}
 use Rattle.call_dispatch.specs.Results.{WritesAlone, call_result}
 use Rattle.call_dispatch.specs.Rows.{call_row}
 use Rattle.call_dispatch.specs.Service.{service_number, service_of}
@@ -22,7 +23,7 @@ ServiceHasItsNumber = (n : ℕ) (s : Service) → service_of n ≡ Some s → se
 -- no byte changes but those of its result, where the caller's module may store there
 abbrev pub CallWritesItsResultAlone : Type 0
 CallWritesItsResultAlone =
-    (k : Kernel) (g : Memory) (by n : ℕ) (a : List ℕ) → IsSound g → WritesAlone (call_result n k g by a) g (call_row n k g by a).memory
+    (k : Kernel) (g : Memory) (by n : ℕ) (a : List ℕ) → IsSound g → WritesAlone (call_result n k g by a) g (call_row n k g by a).change.memory
 
 -- a status that is neither SUCCESS nor SUSPEND_LIFTED is a refusal, and comes with no change
 abbrev pub RefusalChangesNothing : Type 0

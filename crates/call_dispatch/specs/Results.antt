@@ -5,7 +5,7 @@ use Rattle.region_guard.specs.Memory.{Memory, byte, may}
 use Rattle.region_guard.specs.declared.region.Access.TheVariants.{Store}
 use Rattle.kernel_state.specs.Kernel.{module_of}
 use Rattle.kernel_state.specs.declared.kernel.Kernel.{Kernel}
-use Rattle.thread_calls.specs.ThreadRows.{arg}
+use Rattle.kernel_state.specs.Registers.{arg}
 use Rattle.call_dispatch.specs.Service.{service_of}
 use Rattle.call_dispatch.specs.declared.service.Service.{Service}
 use Rattle.call_dispatch.specs.declared.service.Service.TheVariants.{ObjectAllocate, ObjectPointerGet, ThreadInfoGet, ThreadPreemptionChange, ThreadPriorityChange, ThreadTimeSliceChange}

@@ -1,19 +1,17 @@
-//! The registers of a call: what a thread asks for, and where it finds the answer.
+//! The ECALL of a thread: what it asks for is done, and it gets its answer.
 //!
-//! By the RISC-V calling convention a0 to a7 are x10 to x17. The caller's pc is past its ECALL
-//! already; a0 is all that is written here, and of the caller alone.
+//! The caller's pc is past its ECALL already; a0 is all that is written here, and of the caller alone.
 ghost use Rattle.std.specs.Prelude.{◌≡◌, Some};
+ghost use Rattle.kernel_state.specs.Serves.{Serves};
 ghost use Rattle.kernel_state.specs.Sound.{IsSound};
 ghost use Rattle.kernel_state.specs.Kernel.{thread};
 ghost use Rattle.call_dispatch.specs.Caller.{ChangesA0Alone};
-ghost use Rattle.call_dispatch.specs.Ecall.{arguments, with_a0, with_answer, dispatched};
+ghost use Rattle.call_dispatch.specs.Ecall.{with_answer, dispatched};
 
 use crate::laws::a_call_changes_its_a0_alone;
 use crate::rows::call;
-use kernel_state::laws::a_kernel_stays_sound;
-use kernel_state::{Answer, Args, Kernel};
+use kernel_state::{Answer, Kernel, arguments, number_asked};
 use region_guard::Guard;
-use rv_core::Hart;
 use tx_types::ThreadNo;
 
 /// Serves the ECALL of the running thread: the service that its a7 names is called with its a0 to a6,
@@ -21,34 +19,19 @@ use tx_types::ThreadNo;
 /// changes. A caller that waits, or has ended, keeps its a0.
 #[tactic(auto, unfolding(crate::specs::Ecall::dispatched))]
 pub fn dispatch(k: &mut Kernel, g: &mut Guard, t: ThreadNo)
-    requires sound { IsSound k.old }
+    requires serves { Serves k.old g.old }
     requires runs { k.old.ready.run ≡ Some t }
-    ensures kernel { k.new ≡ (dispatched k.old g.old t).kernel }
-    ensures memory { g.new ≡ (dispatched k.old g.old t).memory }
+    ensures kernel { k.new ≡ (dispatched k.old g.old t).change.kernel }
+    ensures memory { g.new ≡ (dispatched k.old g.old t).change.memory }
     ensures caller { ChangesA0Alone (thread k.old t).hart (thread k.new t).hart }
-    ensures sound { IsSound k.new }
+    ensures serves { Serves k.new g.new }
 {
     a_call_changes_its_a0_alone();
     let hart = k.hart(t);
-    let number = hart.get(17);
+    let number = number_asked(hart);
     let a = arguments(hart);
     let answer = call(k, g, t, number, &a);
     put_answer(k, t, answer);
-}
-
-/// The arguments of a call, a0 to a6.
-fn arguments(hart: &Hart) -> Args
-    ensures { result ≡ arguments hart.now }
-{
-    [
-        hart.get(10),
-        hart.get(11),
-        hart.get(12),
-        hart.get(13),
-        hart.get(14),
-        hart.get(15),
-        hart.get(16),
-    ]
 }
 
 /// Puts an answer into a thread's a0, where there is one.
@@ -59,18 +42,8 @@ fn put_answer(k: &mut Kernel, t: ThreadNo, answer: Answer)
     ensures sound { IsSound k.new }
 {
     match answer {
-        Answer::Code(code) => set_a0(k, t, u32::from(code.number())),
-        Answer::Value(value) => set_a0(k, t, value),
+        Answer::Code(code) => k.set_a0(t, u32::from(code.number())),
+        Answer::Value(value) => k.set_a0(t, value),
         Answer::Waits | Answer::Ended => {}
     }
-}
-
-/// Sets a thread's a0.
-fn set_a0(k: &mut Kernel, t: ThreadNo, value: u32)
-    requires sound { IsSound k.old }
-    ensures after { k.new ≡ with_a0 k.old t value }
-    ensures sound { IsSound k.new }
-{
-    a_kernel_stays_sound();
-    k.hart_mut(t).set(10, value);
 }

@@ -2,7 +2,7 @@
 //!
 //! A number without a row is refused here; every other refusal is the service's own.
 ghost use Rattle.std.specs.Prelude.{◌≡◌, Some};
-ghost use Rattle.kernel_state.specs.Sound.{IsSound};
+ghost use Rattle.kernel_state.specs.Serves.{Serves};
 ghost use Rattle.call_dispatch.specs.Rows.{served, call_row};
 
 use crate::service::Service;
@@ -20,12 +20,12 @@ use tx_types::{Code, ThreadNo};
 /// nothing changes.
 #[tactic(auto, unfolding(crate::specs::Rows::call_row))]
 pub(crate) fn call(k: &mut Kernel, g: &mut Guard, by: ThreadNo, number: u32, a: &Args) -> Answer
-    requires sound { IsSound k.old }
+    requires serves { Serves k.old g.old }
     requires runs { k.old.ready.run ≡ Some by }
-    ensures kernel { k.new ≡ (call_row number k.old g.old by a.now).kernel }
-    ensures memory { g.new ≡ (call_row number k.old g.old by a.now).memory }
+    ensures kernel { k.new ≡ (call_row number k.old g.old by a.now).change.kernel }
+    ensures memory { g.new ≡ (call_row number k.old g.old by a.now).change.memory }
     ensures answer { result ≡ (call_row number k.old g.old by a.now).answer }
-    ensures sound { IsSound k.new }
+    ensures serves { Serves k.new g.new }
 {
     match Service::of(number) {
         Some(service) => serve(service, k, g, by, a),
@@ -36,12 +36,12 @@ pub(crate) fn call(k: &mut Kernel, g: &mut Guard, by: ThreadNo, number: u32, a: 
 /// Calls a service.
 #[tactic(auto, unfolding(crate::specs::Rows::served))]
 fn serve(service: Service, k: &mut Kernel, g: &mut Guard, by: ThreadNo, a: &Args) -> Answer
-    requires sound { IsSound k.old }
+    requires serves { Serves k.old g.old }
     requires runs { k.old.ready.run ≡ Some by }
-    ensures kernel { k.new ≡ (served service k.old g.old by a.now).kernel }
-    ensures memory { g.new ≡ (served service k.old g.old by a.now).memory }
+    ensures kernel { k.new ≡ (served service k.old g.old by a.now).change.kernel }
+    ensures memory { g.new ≡ (served service k.old g.old by a.now).change.memory }
     ensures answer { result ≡ (served service k.old g.old by a.now).answer }
-    ensures sound { IsSound k.new }
+    ensures serves { Serves k.new g.new }
 {
     match service {
         Service::ObjectAllocate => object_allocate(k, g, by, a),

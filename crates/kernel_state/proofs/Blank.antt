@@ -1,5 +1,6 @@
 -- A kernel without objects is sound.
-use Rattle.std.proofs.Common.{◌≡◌, ℕ, ◌%◌, ◌<◌, true, IfSome, refl, ap, subst, sym}
+use Rattle.std.proofs.Common.{◌≡◌, ℕ, ◌%◌, ◌<◌, true, IfSome, refl, ap, subst, sym, ◌∙◌}
+use Rattle.std.proofs.lemmas.Bool.{false≢true}
 use Rattle.std.proofs.lemmas.List.{get_or-replicate, length-replicate}
 use Rattle.object_grants.specs.Slot.{free_slot}
 use Rattle.object_grants.specs.Table.{slot}
@@ -11,6 +12,7 @@ use Rattle.kernel_state.specs.Sound.{IsSound, IsClean, IsEntry}
 use Rattle.kernel_state.specs.Spot.{blank_spot}
 use Rattle.kernel_state.specs.Thread.{blank_thread}
 use Rattle.kernel_state.specs.declared.spot.Spot.{Spot}
+use Rattle.kernel_state.proofs.Sound.{below_256}
 
 -- every slot is free, and every spot is blank
 free_at : (o : ℕ) → o < 256 → slot blank_kernel.objects o ≡ free_slot 0
@@ -21,15 +23,19 @@ spot_at m below = get_or-replicate 16 m blank_spot blank_spot below
 
 pub blank_is_sound : IsKept (new_sched 32) → IsSound blank_kernel
 blank_is_sound kept = record {
-  levels = refl;
-  scheduler = kept;
-  slots = length-replicate 256 (free_slot 0);
-  threads = length-replicate 256 blank_thread;
-  spots = length-replicate 16 blank_spot;
-  clean = λ o below. subst (λ (s : Slot). IsClean s s.state) (sym (free_at o below)) (refl, refl, refl);
-  entries = λ t below. subst (λ (s : Slot). IsEntry blank_kernel t (has_thread s)) (sym (free_at t below)) refl;
-  places = λ m below. record {
-    shell = ap (λ (s : Spot). s.shell % 4) (spot_at m below);
-    callback = subst (λ (s : Spot). IfSome s.callback (λ t. (t < 256) × (is_thread blank_kernel t ≡ true) × (module_of blank_kernel t ≡ m))) (sym (spot_at m below)) tt;
+  formed = record {
+    scheduler = kept;
+    slots = length-replicate 256 (free_slot 0);
+    threads = length-replicate 256 blank_thread;
+    spots = length-replicate 16 blank_spot;
+    clean = λ o below. subst (λ (s : Slot). IsClean s s.state) (sym (free_at o below)) (refl, refl, refl);
+    entries = λ t below. subst (λ (s : Slot). IsEntry blank_kernel t (has_thread s)) (sym (free_at t below)) refl;
+    places = λ m below. record {
+      shell = ap (λ (s : Spot). s.shell % 4) (spot_at m below);
+      callback = subst (λ (s : Spot). IfSome s.callback (λ t. (t < 256) × (is_thread blank_kernel t ≡ true) × (module_of blank_kernel t ≡ m))) (sym (spot_at m below)) tt;
+    };
   };
+  settled = λ t live outside.
+      let below = below_256 blank_kernel t (length-replicate 256 (free_slot 0)) live in
+      absurd (false≢true (sym (ap has_thread (free_at t below)) ∙ live));
 }

@@ -4,3 +4,4 @@ pub mod NamedIsLive
 pub mod Running
 pub mod Scheduling
 pub mod Sound
+pub mod ThreadChanges

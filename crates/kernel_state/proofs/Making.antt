@@ -10,17 +10,18 @@ use Rattle.object_grants.specs.Slot.{free_slot, is_in, is_kind, slot_state_numbe
 use Rattle.object_grants.specs.declared.slot.Slot.{Slot}
 use Rattle.object_grants.specs.declared.slot.SlotState.{SlotState}
 use Rattle.object_grants.specs.declared.slot.SlotState.TheVariants.{Free, Empty, Live}
-use Rattle.ready_maps.specs.Sched.{is_ready}
-use Rattle.kernel_state.specs.Kernel.{thread, has_thread, is_thread, module_of, spot, made_thread, removed, unless_is}
-use Rattle.kernel_state.specs.Laws.{OneThreadIsMade, OneThreadIsRemoved}
+use Rattle.ready_maps.specs.Sched.{is_ready, pr, th}
+use Rattle.kernel_state.specs.Kernel.{thread, has_thread, is_thread, module_of, spot, made_thread, removed_thread, unless_is, effective_priority, effective_threshold}
+use Rattle.kernel_state.specs.Laws.{IsRight, OneThreadIsMade, OneThreadIsRemoved}
 use Rattle.kernel_state.specs.Scheduling.{PriorityChangesOne}
-use Rattle.kernel_state.specs.Sound.{IsSound, IsThread, IsEntry, IsSpot, IsSlice, IsClean}
+use Rattle.kernel_state.specs.Sound.{IsSound, IsSettled, IsThread, IsEntry, IsSpot, IsSlice, IsClean}
 use Rattle.kernel_state.specs.Spot.{blank_spot}
 use Rattle.kernel_state.specs.Thread.{blank_thread, new_thread, is_over, is_state}
 use Rattle.kernel_state.specs.declared.kernel.Kernel.{Kernel}
 use Rattle.kernel_state.specs.declared.spot.Spot.{Spot}
 use Rattle.kernel_state.specs.declared.thread.Thread.{Thread}
-use Rattle.kernel_state.proofs.Sound.{entry_stays, IfSome-from, spot_stays}
+use Rattle.kernel_state.specs.declared.thread.ThreadSpec.{ThreadSpec}
+use Rattle.kernel_state.proofs.Sound.{alike_if_same, sound_from, IfSome-from, spot_stays}
 
 -- a slot in one state is in no other
 no_thread_if_empty : (s : Slot) → is_in Empty s ≡ true → has_thread s ≡ false
@@ -32,11 +33,20 @@ no_thread_if_empty s empty = by_state s.state (is_kind ThreadKind s) empty where
 
 -- what is Empty has a number below 256
 below_if_empty : (k : Kernel) (o : ℕ) → IsSound k → is_in Empty (slot k.objects o) ≡ true → o < 256
-below_if_empty k o sound empty = ⊎_elim (λ below. below) (λ past. absurd (false≢true (sym (ap (is_in Empty) (get_or_past k.objects o (free_slot 0) (omega (arith, sound.slots)))) ∙ empty))) (cases_lt o 256)
+below_if_empty k o sound empty = ⊎_elim (λ below. below)
+    (λ past. absurd (false≢true (sym (ap (is_in Empty) (get_or_past k.objects o (free_slot 0) (omega (arith, sound.formed.slots)))) ∙ empty))) (cases_lt o 256)
 
 -- a slice is whole at first
-whole_slice : (n : ℕ) → ((n ≡ 0) × (n ≡ 0)) ⊎ ((1 ≤ n) × (n ≤ n))
+pub whole_slice : (n : ℕ) → IsSlice n n
 whole_slice n = ⊎_elim (λ (none : n ≡ 0). inl (none, none)) (λ (some : n ≢ 0). inr (omega arith, omega arith)) (cases_eq n 0)
+
+-- a thread with a new entry and no mutex has the pair of that entry
+made_is_settled : (k : Kernel) (o : ℕ) (s : ThreadSpec) → thread k o ≡ new_thread s → pr k.ready o ≡ s.priority → th k.ready o ≡ s.threshold → s.threshold ≤ s.priority → IsSettled k o
+unfolding effective_priority effective_threshold
+made_is_settled k o s here priority threshold at_most = record {
+  priority = priority ∙ sym (ap (λ (t : Thread). t.priority) here);
+  threshold = threshold ∙ (omega arith ∙ sym (ap (λ (t : Thread). min t.threshold t.priority) here));
+}
 
 pub one_thread_is_made : PriorityChangesOne → OneThreadIsMade
 one_thread_is_made sets k o name s sound empty kind owner no_zero at_most level =
@@ -45,48 +55,50 @@ one_thread_is_made sets k o name s sound empty kind owner no_zero at_most level 
     let after = made_thread before o s in
     let made : Slot = record (slot k.objects o) { state = Live; name = name } in
     let none : is_thread k o ≡ false = no_thread_if_empty (slot k.objects o) empty in
-    let slot_here : slot after.objects o ≡ made = get_or-set_same k.objects o made (free_slot 0) (omega (arith, sound.slots)) in
+    let slot_here : slot after.objects o ≡ made = get_or-set_same k.objects o made (free_slot 0) (omega (arith, sound.formed.slots)) in
     let slot_there = λ (u : ℕ) (other : u ≢ o). get_or-set_other k.objects o u made (free_slot 0) other in
-    let here : thread after o ≡ new_thread s = get_or-set_same k.threads o (new_thread s) blank_thread (omega (arith, sound.threads)) in
+    let here : thread after o ≡ new_thread s = get_or-set_same k.threads o (new_thread s) blank_thread (omega (arith, sound.formed.threads)) in
     let there = λ (u : ℕ) (other : u ≢ o). get_or-set_other k.threads o u (new_thread s) blank_thread other in
-    let absent : is_ready k.ready o ≡ false = subst (IsEntry k o) none (sound.entries o below) in
-    let set = sets k.ready o s.priority s.threshold sound.scheduler below at_most level in
+    let absent : is_ready k.ready o ≡ false = subst (IsEntry k o) none (sound.formed.entries o below) in
+    let set = sets k.ready o s.priority s.threshold sound.formed.scheduler below at_most level in
     let live : is_thread after o ≡ true = ap has_thread slot_here ∙ kind in
     let is_made : IsThread after o = record {
       owner = ap (λ (t : Thread). t.module) here ∙ (owner ∙ sym (ap (λ (x : Slot). x.owner) slot_here));
       ready = set.ready ∙ (absent ∙ sym (ap (λ (t : Thread). is_state t.state Ready) here));
       priority = subst (λ (t : Thread). t.priority < after.ready.levels) (sym here) (subst (λ (n : ℕ). s.priority < n) (sym set.others.levels) level);
       threshold = subst (λ (t : Thread). t.threshold ≤ t.priority) (sym here) at_most;
-      in_scheduler = set.priority ∙ sym (ap (λ (t : Thread). t.priority) here);
-      threshold_in_scheduler = set.threshold ∙ (omega arith ∙ sym (ap (λ (t : Thread). min t.threshold t.priority) here));
-      slice = subst IsSlice (sym here) (whole_slice s.slice);
+      slice = subst (λ (t : Thread). IsSlice t.slice t.left) (sym here) (whole_slice s.slice);
       held = λ is_held. absurd (false≢true (sym (ap (λ (t : Thread). t.held) here) ∙ is_held));
     } in
-    record {
-      levels = set.others.levels ∙ sound.levels;
+    let itself : IsRight [] after o = record {
+      entry = subst (IsEntry after o) (sym live) is_made;
+      settled = λ _ _. made_is_settled after o s here set.priority set.threshold at_most;
+    } in
+    sound_from [] k after sound (record {
       scheduler = set.others.kept;
-      slots = length-set k.objects o made ∙ sound.slots;
-      threads = length-set k.threads o (new_thread s) ∙ sound.threads;
-      spots = sound.spots;
+      levels = set.others.levels;
+      slots = length-set k.objects o made;
+      threads = length-set k.threads o (new_thread s);
+      spots = refl;
       clean = λ u u_below. ⊎_elim
           (λ (same : u ≡ o). subst (λ n. IsClean (slot after.objects n) (slot after.objects n).state) (sym same) (subst (λ (x : Slot). IsClean x x.state) (sym slot_here) no_zero))
-          (λ (other : u ≢ o). subst (λ (x : Slot). IsClean x x.state) (sym (slot_there u other)) (sound.clean u u_below))
+          (λ (other : u ≢ o). subst (λ (x : Slot). IsClean x x.state) (sym (slot_there u other)) (sound.formed.clean u u_below))
           (cases_eq u o);
       entries = λ u u_below. ⊎_elim
-          (λ (same : u ≡ o). subst (λ n. IsEntry after n (is_thread after n)) (sym same) (subst (IsEntry after o) (sym live) is_made))
-          (λ (other : u ≢ o). subst (IsEntry after u) (sym (ap has_thread (slot_there u other))) (entry_stays k after u (is_thread k u) (record {
-            levels = set.others.levels;
-            thread = there u other;
-            owner = ap (λ (x : Slot). x.owner) (slot_there u other);
+          (λ (same : u ≡ o). inr (subst (IsRight [] after) (sym same) itself))
+          (λ (other : u ≢ o). inl (record {
+            live = ap has_thread (slot_there u other);
+            alike = alike_if_same (thread k u) (thread after u) (there u other);
+            owner = λ _. ap (λ (x : Slot). x.owner) (slot_there u other);
             ready = set.others.ready u other;
             priority = set.others.priority u other;
             threshold = set.others.threshold u other;
-          }) (sound.entries u u_below)))
+          }))
           (cases_eq u o);
       places = λ m m_below. spot_stays k after m refl (λ c c_below is_one of_m.
           let other : c ≢ o = λ same. true≢false (sym is_one ∙ (ap (is_thread k) same ∙ none)) in
-          (ap has_thread (slot_there c other) ∙ is_one, ap (λ (t : Thread). t.module) (there c other) ∙ of_m)) (sound.places m m_below);
-    }
+          (ap has_thread (slot_there c other) ∙ is_one, ap (λ (t : Thread). t.module) (there c other) ∙ of_m)) (sound.formed.places m m_below);
+    })
 
 -- a thread that is over isn't ready
 over_not_ready : (state : State) → is_over state ≡ true → is_state state Ready ≡ false
@@ -109,40 +121,45 @@ unless_is-from t (Some u) P h = elim (u == t) as (λ b. (u == t) ≡ b → IfSom
 
 pub one_thread_is_removed : OneThreadIsRemoved
 one_thread_is_removed k t sound below live over =
-    let after = removed k t in
+    let after = removed_thread k t in
     let own = module_of k t in
     let emptied : Slot = record (slot k.objects t) { state = Empty; grants = 0; name = [] } in
     let left : Spot = record (spot k own) { callback = unless_is t (spot k own).callback } in
-    let slot_here : slot after.objects t ≡ emptied = get_or-set_same k.objects t emptied (free_slot 0) (omega (arith, sound.slots)) in
+    let slot_here : slot after.objects t ≡ emptied = get_or-set_same k.objects t emptied (free_slot 0) (omega (arith, sound.formed.slots)) in
     let slot_there = λ (u : ℕ) (other : u ≢ t). get_or-set_other k.objects t u emptied (free_slot 0) other in
-    let sound_thread : IsThread k t = subst (IsEntry k t) live (sound.entries t below) in
+    let sound_thread : IsThread k t = subst (IsEntry k t) live (sound.formed.entries t below) in
     let not_ready : is_ready k.ready t ≡ false = sound_thread.ready ∙ over_not_ready (thread k t).state over in
+    let gone : is_thread after t ≡ false = ap has_thread slot_here in
+    let itself : IsRight [] after t = record {
+      entry = subst (IsEntry after t) (sym gone) not_ready;
+      settled = λ is_one _. absurd (false≢true (sym gone ∙ is_one));
+    } in
     let callback_stays = λ (c : ℕ) (other : c ≢ t) (is_one : is_thread k c ≡ true). ap has_thread (slot_there c other) ∙ is_one in
-    record {
-      levels = sound.levels;
-      scheduler = sound.scheduler;
-      slots = length-set k.objects t emptied ∙ sound.slots;
-      threads = sound.threads;
-      spots = length-set k.spots own left ∙ sound.spots;
+    sound_from [] k after sound (record {
+      scheduler = sound.formed.scheduler;
+      levels = refl;
+      slots = length-set k.objects t emptied;
+      threads = refl;
+      spots = length-set k.spots own left;
       clean = λ u u_below. ⊎_elim
           (λ (same : u ≡ t). subst (λ n. IsClean (slot after.objects n) (slot after.objects n).state) (sym same) (subst (λ (x : Slot). IsClean x x.state) (sym slot_here) (refl, refl)))
-          (λ (other : u ≢ t). subst (λ (x : Slot). IsClean x x.state) (sym (slot_there u other)) (sound.clean u u_below))
+          (λ (other : u ≢ t). subst (λ (x : Slot). IsClean x x.state) (sym (slot_there u other)) (sound.formed.clean u u_below))
           (cases_eq u t);
       entries = λ u u_below. ⊎_elim
-          (λ (same : u ≡ t). subst (λ n. IsEntry after n (is_thread after n)) (sym same) (subst (IsEntry after t) (sym (ap has_thread slot_here)) not_ready))
-          (λ (other : u ≢ t). subst (IsEntry after u) (sym (ap has_thread (slot_there u other))) (entry_stays k after u (is_thread k u) (record {
-            levels = refl;
-            thread = refl;
-            owner = ap (λ (x : Slot). x.owner) (slot_there u other);
+          (λ (same : u ≡ t). inr (subst (IsRight [] after) (sym same) itself))
+          (λ (other : u ≢ t). inl (record {
+            live = ap has_thread (slot_there u other);
+            alike = alike_if_same (thread k u) (thread k u) refl;
+            owner = λ _. ap (λ (x : Slot). x.owner) (slot_there u other);
             ready = refl;
             priority = refl;
             threshold = refl;
-          }) (sound.entries u u_below)))
+          }))
           (cases_eq u t);
       places = λ m m_below. ⊎_elim
           (λ (same : m ≡ own).
-          let spot_here : spot after m ≡ left = subst (λ n. spot after n ≡ left) (sym same) (get_or-set_same k.spots own left blank_spot (omega (arith, sound.spots, same, m_below))) in
-          let was : IsSpot k own (spot k own) = subst (λ n. IsSpot k n (spot k n)) same (sound.places m m_below) in
+          let spot_here : spot after m ≡ left = subst (λ n. spot after n ≡ left) (sym same) (get_or-set_same k.spots own left blank_spot (omega (arith, sound.formed.spots, same, m_below))) in
+          let was : IsSpot k own (spot k own) = subst (λ n. IsSpot k n (spot k n)) same (sound.formed.places m m_below) in
           record {
             shell = ap (λ (s : Spot). s.shell % 4) spot_here ∙ was.shell;
             callback = subst (λ (s : Spot). IfSome s.callback (λ c. (c < 256) × (is_thread after c ≡ true) × (module_of after c ≡ m))) (sym spot_here)
@@ -150,6 +167,6 @@ one_thread_is_removed k t sound below live over =
           })
           (λ (other : m ≢ own). spot_stays k after m (get_or-set_other k.spots own m left blank_spot other) (λ c c_below is_one of_m.
           let not_t : c ≢ t = λ same. other (sym of_m ∙ ap (module_of k) same) in
-          (callback_stays c not_t is_one, of_m)) (sound.places m m_below))
+          (callback_stays c not_t is_one, of_m)) (sound.formed.places m m_below))
           (cases_eq m own);
-    }
+    })

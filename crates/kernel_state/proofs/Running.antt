@@ -19,7 +19,7 @@ has-found test (x ∷ xs) t found = elim (test x) as (λ b. cond b (Some x) (fin
 
 pub running_is_ready : RunningIsReady
 running_is_ready k t sound runs =
-    let rightly = subst (RunsRightly k.ready) runs sound.scheduler.rightly in
+    let rightly = subst (RunsRightly k.ready) runs sound.formed.scheduler.rightly in
     has-found (λ u. pr k.ready u == pr k.ready t) k.ready.order t rightly.is_first
 
 by_entry : (k : Kernel) (t : ℕ) (b : Bool) → IsEntry k t b → is_ready k.ready t ≡ true → b ≡ true
@@ -34,5 +34,5 @@ All-has P (x ∷ xs) t all stands =
 
 pub ready_is_thread : ReadyIsThread
 ready_is_thread k t sound ready =
-    let below = All-has (λ u. u < 256) k.ready.order t sound.scheduler.laid_out.in_range ready in
-    by_entry k t (is_thread k t) (sound.entries t below) ready
+    let below = All-has (λ u. u < 256) k.ready.order t sound.formed.scheduler.laid_out.in_range ready in
+    by_entry k t (is_thread k t) (sound.formed.entries t below) ready

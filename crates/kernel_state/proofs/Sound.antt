@@ -1,46 +1,104 @@
--- A sound kernel stays sound where one thread, or one slot, changes.
-use Rattle.std.proofs.Common.{◌≡◌, ◌≢◌, ℕ, ◌<◌, ◌≤◌, ◌%◌, Bool, true, false, min, List, length, Option, None, Some, IfSome, refl, sym, ap, ◌∙◌, subst, ⊎_elim, arith}
-use Rattle.std.proofs.lemmas.Bool.{cases_eq}
-use Rattle.std.proofs.lemmas.List.{get_or-set_same, get_or-set_other, length-set}
+-- A kernel is sound where another was, if each number looks the same or is right; so it is where one thread, or one slot, changes.
+use Rattle.std.proofs.Common.{◌≡◌, ◌≢◌, ◌⊎◌, ℕ, ◌<◌, ◌≤◌, ◌%◌, Bool, true, false, min, List, [], length, Option, None, Some, IfSome, refl, sym, ap, ◌∙◌, subst, ⊎_elim, inl, inr, arith}
+use Rattle.std.proofs.lemmas.Bool.{cases_eq, cases_lt, false≢true}
+use Rattle.std.proofs.lemmas.List.{get_or-set_same, get_or-set_other, get_or_past, length-set}
 use Rattle.tx_types.specs.declared.state.State.TheVariants.{Ready}
-use Rattle.std.specs.List.{slice_index_or}
 use Rattle.object_grants.specs.Table.{slot, with_slot}
 use Rattle.object_grants.specs.Slot.{free_slot}
 use Rattle.object_grants.specs.declared.slot.Slot.{Slot}
-use Rattle.ready_maps.specs.Sched.{Sched, is_ready, pr, th}
+use Rattle.ready_maps.specs.Sched.{Sched, has, is_ready, pr, th}
 use Rattle.rv_core.specs.Hart.{HartState}
-use Rattle.kernel_state.specs.Kernel.{thread, with_thread, has_thread, is_thread, module_of, spot}
-use Rattle.kernel_state.specs.Laws.{with_both, OneThreadChanges, OneHartChanges, OneSlotChanges}
-use Rattle.kernel_state.specs.Sound.{IsThread, IsEntry, IsSpot, IsSlice, IsClean}
+use Rattle.kernel_state.specs.Kernel.{thread, with_thread, has_thread, is_thread, module_of, spot, with_spot, effective_priority, effective_threshold}
+use Rattle.kernel_state.specs.Laws.{AreAlike, EntryStays, IsRight, IsSoundFrom, SoundFrom, Suits, KeepsNumbers, EffectiveStays, EffectiveFits, with_both, OneThreadChanges, OneStateChanges, OneHartChanges, OneSlotChanges, OneSpotChanges, ThreadIsRight}
+use Rattle.kernel_state.specs.Scheduling.{ChangesOnly}
+use Rattle.kernel_state.specs.Sound.{IsSoundBut, IsSettled, IsThread, IsEntry, IsSpot, IsSlice, IsClean}
+use Rattle.kernel_state.specs.Spot.{blank_spot}
 use Rattle.kernel_state.specs.Thread.{blank_thread, is_waiting, is_state}
 use Rattle.kernel_state.specs.declared.kernel.Kernel.{Kernel}
 use Rattle.kernel_state.specs.declared.spot.Spot.{Spot}
 use Rattle.kernel_state.specs.declared.thread.Thread.{Thread}
 
--- what one kernel shows of a thread, another shows too
-pub record SameThread (k now : Kernel) (u : ℕ) : Type 0 where
-  pub levels : now.ready.levels ≡ k.ready.levels
-  pub thread : thread now u ≡ thread k u
-  pub owner : (slot now.objects u).owner ≡ (slot k.objects u).owner
-  pub ready : is_ready now.ready u ≡ is_ready k.ready u
-  pub priority : pr now.ready u ≡ pr k.ready u
-  pub threshold : th now.ready u ≡ th k.ready u
+pub effective_stays : EffectiveStays
+unfolding effective_priority effective_threshold
+effective_stays k now t priority =
+    (priority, λ threshold. ap (λ n. min n (thread now t).priority) threshold ∙ ap (λ n. min (thread k t).threshold n) priority)
 
-thread_stays : (k now : Kernel) (u : ℕ) → SameThread k now u → IsThread k u → IsThread now u
-thread_stays k now u same sound = record {
-  owner = ap (λ (t : Thread). t.module) same.thread ∙ (sound.owner ∙ sym same.owner);
-  ready = same.ready ∙ (sound.ready ∙ ap (λ (t : Thread). is_state t.state Ready) (sym same.thread));
-  priority = subst (λ (t : Thread). t.priority < now.ready.levels) (sym same.thread) (subst (λ (n : ℕ). (thread k u).priority < n) (sym same.levels) sound.priority);
-  threshold = subst (λ (t : Thread). t.threshold ≤ t.priority) (sym same.thread) sound.threshold;
-  in_scheduler = same.priority ∙ (sound.in_scheduler ∙ ap (λ (t : Thread). t.priority) (sym same.thread));
-  threshold_in_scheduler = same.threshold ∙ (sound.threshold_in_scheduler ∙ ap (λ (t : Thread). min t.threshold t.priority) (sym same.thread));
-  slice = subst IsSlice (sym same.thread) sound.slice;
-  held = subst (λ (t : Thread). t.held ≡ true → is_waiting t.state ≡ true) (sym same.thread) sound.held;
+pub effective_fits : EffectiveFits
+unfolding effective_priority effective_threshold
+effective_fits k t level = (omega arith, level)
+
+-- entries that are equal are alike
+pub alike_if_same : (a b : Thread) → b ≡ a → AreAlike a b
+alike_if_same a b same = record {
+  «module» = ap (λ (x : Thread). x.module) same;
+  state = ap (λ (x : Thread). x.state) same;
+  priority = ap (λ (x : Thread). x.priority) same;
+  threshold = ap (λ (x : Thread). x.threshold) same;
+  slice = ap (λ (x : Thread). x.slice) same;
+  left = ap (λ (x : Thread). x.left) same;
+  held = ap (λ (x : Thread). x.held) same;
 }
 
-pub entry_stays : (k now : Kernel) (u : ℕ) (b : Bool) → SameThread k now u → IsEntry k u b → IsEntry now u b
-entry_stays k now u true same sound = thread_stays k now u same sound
-entry_stays k now u false same sound = same.ready ∙ sound
+-- what is a thread has a number below 256
+pub below_256 : (k : Kernel) (t : ℕ) → length k.objects ≡ 256 → is_thread k t ≡ true → t < 256
+below_256 k t size live = ⊎_elim (λ below. below) (λ past.
+    absurd (false≢true (sym (ap has_thread (get_or_past k.objects t (free_slot 0) (omega (arith, size)))) ∙ live))) (cases_lt t 256)
+
+right_of : (but : List ℕ) (k : Kernel) (u : ℕ) → IsSoundBut but k → u < 256 → IsRight but k u
+right_of but k u sound below = record { entry = sound.formed.entries u below; settled = sound.settled u }
+
+-- what holds of a thread of a sound kernel
+pub thread_of : (but : List ℕ) (k : Kernel) (t : ℕ) → IsSoundBut but k → is_thread k t ≡ true → IsThread k t
+thread_of but k t sound live = subst (IsEntry k t) live (sound.formed.entries t (below_256 k t sound.formed.slots live))
+
+pub thread_is_right : ThreadIsRight
+thread_is_right k t sound live =
+    let below = below_256 k t sound.formed.slots live in (below, right_of [] k t sound below)
+
+-- a number that looks the same is as right as it was
+thread_stays : (k now : Kernel) (u : ℕ) → now.ready.levels ≡ k.ready.levels → EntryStays k now u → is_thread k u ≡ true → IsThread k u → IsThread now u
+thread_stays k now u levels same live sound =
+    let alike = same.alike in
+    record {
+      owner = alike.module ∙ (sound.owner ∙ sym (same.owner live));
+      ready = same.ready ∙ (sound.ready ∙ ap (λ s. is_state s Ready) (sym alike.state));
+      priority = omega (arith, sound.priority, alike.priority, levels);
+      threshold = omega (arith, sound.threshold, alike.threshold, alike.priority);
+      slice = subst (λ n. IsSlice n (thread now u).left) (sym alike.slice) (subst (IsSlice (thread k u).slice) (sym alike.left) sound.slice);
+      held = λ held. subst (λ s. is_waiting s ≡ true) (sym alike.state) (sound.held (sym alike.held ∙ held));
+    }
+
+entry_stays : (k now : Kernel) (u : ℕ) (b : Bool) → now.ready.levels ≡ k.ready.levels → EntryStays k now u → is_thread k u ≡ b → IsEntry k u b → IsEntry now u b
+entry_stays k now u true levels same live sound = thread_stays k now u levels same live sound
+entry_stays k now u false levels same live sound = same.ready ∙ sound
+
+right_stays : (but : List ℕ) (k now : Kernel) (u : ℕ) → now.ready.levels ≡ k.ready.levels → EntryStays k now u → IsRight but k u → IsRight but now u
+right_stays but k now u levels same right =
+    let effective = effective_stays k now u same.alike.priority in
+    record {
+      entry = subst (IsEntry now u) (sym same.live) (entry_stays k now u (is_thread k u) levels same refl right.entry);
+      settled = λ live outside.
+          let was = right.settled (sym same.live ∙ live) outside in
+          record { priority = same.priority ∙ (was.priority ∙ sym effective.0); threshold = same.threshold ∙ (was.threshold ∙ sym (effective.1 same.alike.threshold)) };
+    }
+
+pub sound_from : SoundFrom
+sound_from but k now sound from =
+    let slots = from.slots ∙ sound.formed.slots in
+    let right = λ (u : ℕ) (below : u < 256). ⊎_elim {C = IsRight but now u}
+    (λ same. right_stays but k now u from.levels same (right_of but k u sound below)) (λ itself. itself) (from.entries u below) in
+    record {
+      formed = record {
+        scheduler = from.scheduler;
+        slots = slots;
+        threads = from.threads ∙ sound.formed.threads;
+        spots = from.spots ∙ sound.formed.spots;
+        clean = from.clean;
+        entries = λ u below. (right u below).entry;
+        places = from.places;
+      };
+      settled = λ u live outside. (right u (below_256 now u slots live)).settled live outside;
+    }
 
 -- a fact of what an option holds, from another
 pub IfSome-from : (o : Option ℕ) (P Q : ℕ → Type 0) → ((x : ℕ) → P x → Q x) → IfSome o P → IfSome o Q
@@ -57,98 +115,132 @@ spot_stays k now m same stays sound = record {
       (IfSome-from (spot k m).callback _ _ (λ c h. let after = stays c h.0 h.1 h.2 in (h.0, after.0, after.1)) sound.callback);
 }
 
--- only the owner of a slot may look different, and that of a thread's slot doesn't
-entry_with_owner : (k now : Kernel) (u : ℕ) (b : Bool) → ((is_thread k u ≡ true) → (slot now.objects u).owner ≡ (slot k.objects u).owner) → (b ≡ true → is_thread k u ≡ true)
-    → now.threads ≡ k.threads → now.ready ≡ k.ready → IsEntry k u b → IsEntry now u b
-entry_with_owner k now u true owner live threads ready sound = thread_stays k now u (record {
-  levels = ap (λ (s : Sched). s.levels) ready;
-  thread = ap (λ (ts : List Thread). slice_index_or ts u blank_thread) threads;
-  owner = owner (live refl);
-  ready = ap (λ (s : Sched). is_ready s u) ready;
-  priority = ap (λ (s : Sched). pr s u) ready;
-  threshold = ap (λ (s : Sched). th s u) ready;
-}) sound
-entry_with_owner k now u false owner live threads ready sound = ap (λ (s : Sched). is_ready s u) ready ∙ sound
+-- a thread that isn't the one that changes
+other_stays : (k : Kernel) (t u : ℕ) (now : Thread) (s : Sched) → ChangesOnly k.ready s t → u ≢ t → EntryStays k (with_both k t now s) u
+other_stays k t u now s changes other = record {
+  live = refl;
+  alike = alike_if_same (thread k u) (thread (with_both k t now s) u) (get_or-set_other k.threads t u now blank_thread other);
+  owner = λ _. refl;
+  ready = changes.ready u other;
+  priority = changes.priority u other;
+  threshold = changes.threshold u other;
+}
+
+-- no thread changes its module
+modules_stay : (k : Kernel) (t u : ℕ) (now : Thread) → t < length k.threads → now.module ≡ module_of k t → module_of (with_thread k t now) u ≡ module_of k u
+modules_stay k t u now size own = ⊎_elim
+    (λ (same : u ≡ t). subst (λ n. module_of (with_thread k t now) n ≡ module_of k n) (sym same)
+    (ap (λ (x : Thread). x.module) (get_or-set_same k.threads t now blank_thread size) ∙ own))
+    (λ (other : u ≢ t). ap (λ (x : Thread). x.module) (get_or-set_other k.threads t u now blank_thread other)) (cases_eq u t)
 
 pub one_thread_changes : OneThreadChanges
-one_thread_changes k t now s sound below live «module» changes agrees =
+one_thread_changes but k t now s sound live own changes suits settled =
     let after = with_both k t now s in
-    let size : t < length k.threads = omega (arith, sound.threads) in
+    let below = below_256 k t sound.formed.slots live in
+    let size : t < length k.threads = omega (arith, sound.formed.threads) in
     let here : thread after t ≡ now = get_or-set_same k.threads t now blank_thread size in
-    let there = λ (u : ℕ) (other : u ≢ t). get_or-set_other k.threads t u now blank_thread other in
-    let modules = λ (u : ℕ). ⊎_elim {C = module_of after u ≡ module_of k u}
-    (λ (same : u ≡ t). subst (λ n. module_of after n ≡ module_of k n) (sym same) (ap (λ (x : Thread). x.module) here ∙ «module»))
-    (λ (other : u ≢ t). ap (λ (x : Thread). x.module) (there u other)) (cases_eq u t) in
-    record {
-      levels = changes.levels ∙ sound.levels;
+    let was = thread_of but k t sound live in
+    let facts : IsThread after t = record {
+      owner = ap (λ (x : Thread). x.module) here ∙ (own ∙ was.owner);
+      ready = suits.ready ∙ sym (ap (λ (x : Thread). is_state x.state Ready) here);
+      priority = subst (λ (x : Thread). x.priority < s.levels) (sym here) suits.priority;
+      threshold = subst (λ (x : Thread). x.threshold ≤ x.priority) (sym here) suits.threshold;
+      slice = subst (λ (x : Thread). IsSlice x.slice x.left) (sym here) suits.slice;
+      held = subst (λ (x : Thread). x.held ≡ true → is_waiting x.state ≡ true) (sym here) suits.held;
+    } in
+    let itself : IsRight but after t = record { entry = subst (IsEntry after t) (sym live) facts; settled = λ _ outside. settled outside } in
+    sound_from but k after sound (record {
       scheduler = changes.kept;
-      slots = sound.slots;
-      threads = length-set k.threads t now ∙ sound.threads;
-      spots = sound.spots;
-      clean = sound.clean;
-      entries = λ u u_below. ⊎_elim
-          (λ (same : u ≡ t). subst (λ n. IsEntry after n (is_thread k n)) (sym same) (subst (IsEntry after t) (sym live) agrees))
-          (λ (other : u ≢ t). entry_stays k after u (is_thread k u) (record {
-            levels = changes.levels;
-            thread = there u other;
-            owner = refl;
-            ready = changes.ready u other;
-            priority = changes.priority u other;
-            threshold = changes.threshold u other;
-          }) (sound.entries u u_below))
-          (cases_eq u t);
-      places = λ m m_below. spot_stays k after m refl (λ c c_below is_one of_m. (is_one, modules c ∙ of_m)) (sound.places m m_below);
-    }
+      levels = changes.levels;
+      slots = refl;
+      threads = length-set k.threads t now;
+      spots = refl;
+      clean = sound.formed.clean;
+      entries = λ u u_below. ⊎_elim (λ (same : u ≡ t). inr (subst (IsRight but after) (sym same) itself)) (λ (other : u ≢ t). inl (other_stays k t u now s changes other)) (cases_eq u t);
+      places = λ m m_below. spot_stays k after m refl (λ c c_below is_one of_m. (is_one, modules_stay k t c now size own ∙ of_m)) (sound.formed.places m m_below);
+    })
 
--- a thread with other registers is right as it was
-same_but_hart : (k now : Kernel) (t : ℕ) (h : HartState) (b : Bool) → now.ready ≡ k.ready → now.objects ≡ k.objects → thread now t ≡ record (thread k t) { hart = h } → IsEntry k t b → IsEntry now t b
-same_but_hart k now t h true ready objects same sound = record {
-  owner = ap (λ (x : Thread). x.module) same ∙ (sound.owner ∙ ap (λ (os : List Slot). (slot os t).owner) (sym objects));
-  ready = ap (λ (s : Sched). is_ready s t) ready ∙ (sound.ready ∙ ap (λ (x : Thread). is_state x.state Ready) (sym same));
-  priority = subst (λ (x : Thread). x.priority < now.ready.levels) (sym same) (subst (λ (s : Sched). (thread k t).priority < s.levels) (sym ready) sound.priority);
-  threshold = subst (λ (x : Thread). x.threshold ≤ x.priority) (sym same) sound.threshold;
-  in_scheduler = ap (λ (s : Sched). pr s t) ready ∙ (sound.in_scheduler ∙ ap (λ (x : Thread). x.priority) (sym same));
-  threshold_in_scheduler = ap (λ (s : Sched). th s t) ready ∙ (sound.threshold_in_scheduler ∙ ap (λ (x : Thread). min x.threshold x.priority) (sym same));
-  slice = subst IsSlice (sym same) sound.slice;
-  held = subst (λ (x : Thread). x.held ≡ true → is_waiting x.state ≡ true) (sym same) sound.held;
-}
-same_but_hart k now t h false ready objects same sound = ap (λ (s : Sched). is_ready s t) ready ∙ sound
+pub one_state_changes : OneStateChanges
+one_state_changes but k t now s sound live keeps ready slice held =
+    let was = thread_of but k t sound live in
+    let below = below_256 k t sound.formed.slots live in
+    let here : thread (with_both k t now s) t ≡ now = get_or-set_same k.threads t now blank_thread (omega (arith, sound.formed.threads)) in
+    let effective = effective_stays k (with_both k t now s) t (ap (λ (x : Thread). x.priority) here ∙ keeps.priority) in
+    one_thread_changes but k t now s sound live keeps.module keeps.others (record {
+      ready = ready;
+      priority = omega (arith, was.priority, keeps.priority, keeps.others.levels);
+      threshold = omega (arith, was.threshold, keeps.priority, keeps.threshold);
+      slice = slice;
+      held = held;
+    }) (λ outside.
+    let settled = sound.settled t live outside in
+    record { priority = keeps.in_scheduler ∙ (settled.priority ∙ sym effective.0); threshold = keeps.threshold_in_scheduler ∙ (settled.threshold ∙ sym (effective.1 (ap (λ (x : Thread). x.threshold) here ∙ keeps.threshold))) })
+
+-- a thread with other registers
+hart_alike : (k : Kernel) (t u : ℕ) (h : HartState) → t < length k.threads → AreAlike (thread k u) (thread (with_thread k t (record (thread k t) { hart = h })) u)
+hart_alike k t u h size =
+    let now : Thread = record (thread k t) { hart = h } in
+    let after = with_thread k t now in
+    let itself : AreAlike (thread k t) now = record { «module» = refl; state = refl; priority = refl; threshold = refl; slice = refl; left = refl; held = refl } in
+    ⊎_elim
+    (λ (same : u ≡ t). subst (λ n. AreAlike (thread k n) (thread after n)) (sym same)
+    (subst (AreAlike (thread k t)) (sym (get_or-set_same k.threads t now blank_thread size)) itself))
+    (λ (other : u ≢ t). alike_if_same (thread k u) (thread after u) (get_or-set_other k.threads t u now blank_thread other)) (cases_eq u t)
 
 pub one_hart_changes : OneHartChanges
 one_hart_changes k t h sound below =
     let now : Thread = record (thread k t) { hart = h } in
     let after = with_thread k t now in
-    let size : t < length k.threads = omega (arith, sound.threads) in
-    let here : thread after t ≡ now = get_or-set_same k.threads t now blank_thread size in
-    let there = λ (u : ℕ) (other : u ≢ t). get_or-set_other k.threads t u now blank_thread other in
-    let modules = λ (u : ℕ). ⊎_elim {C = module_of after u ≡ module_of k u}
-    (λ (same : u ≡ t). subst (λ n. module_of after n ≡ module_of k n) (sym same) (ap (λ (x : Thread). x.module) here))
-    (λ (other : u ≢ t). ap (λ (x : Thread). x.module) (there u other)) (cases_eq u t) in
-    record {
-      levels = sound.levels;
-      scheduler = sound.scheduler;
-      slots = sound.slots;
-      threads = length-set k.threads t now ∙ sound.threads;
-      spots = sound.spots;
-      clean = sound.clean;
-      entries = λ u u_below. ⊎_elim
-          (λ (same : u ≡ t). subst (λ n. IsEntry after n (is_thread k n)) (sym same) (same_but_hart k after t h (is_thread k t) refl refl here (sound.entries t below)))
-          (λ (other : u ≢ t). entry_stays k after u (is_thread k u) (record {
-            levels = refl;
-            thread = there u other;
-            owner = refl;
-            ready = refl;
-            priority = refl;
-            threshold = refl;
-          }) (sound.entries u u_below))
-          (cases_eq u t);
-      places = λ m m_below. spot_stays k after m refl (λ c c_below is_one of_m. (is_one, modules c ∙ of_m)) (sound.places m m_below);
-    }
+    let size : t < length k.threads = omega (arith, sound.formed.threads) in
+    sound_from [] k after sound (record {
+      scheduler = sound.formed.scheduler;
+      levels = refl;
+      slots = refl;
+      threads = length-set k.threads t now;
+      spots = refl;
+      clean = sound.formed.clean;
+      entries = λ u u_below. inl (record {
+        live = refl;
+        alike = hart_alike k t u h size;
+        owner = λ _. refl;
+        ready = refl;
+        priority = refl;
+        threshold = refl;
+      });
+      places = λ m m_below. spot_stays k after m refl (λ c c_below is_one of_m. (is_one, modules_stay k t c now size refl ∙ of_m)) (sound.formed.places m m_below);
+    })
+
+pub one_spot_changes : OneSpotChanges
+one_spot_changes k m now sound right =
+    let after = with_spot k m now in
+    sound_from [] k after sound (record {
+      scheduler = sound.formed.scheduler;
+      levels = refl;
+      slots = refl;
+      threads = refl;
+      spots = length-set k.spots m now;
+      clean = sound.formed.clean;
+      entries = λ u u_below. inl (record {
+        live = refl;
+        alike = alike_if_same (thread k u) (thread k u) refl;
+        owner = λ _. refl;
+        ready = refl;
+        priority = refl;
+        threshold = refl;
+      });
+      places = λ n n_below. ⊎_elim
+          (λ (same : n ≡ m).
+          let here : spot after m ≡ now = get_or-set_same k.spots m now blank_spot (omega (arith, sound.formed.spots, same, n_below)) in
+          let itself : IsSpot after m now = record { shell = right.shell; callback = right.callback } in
+          subst (λ i. IsSpot after i (spot after i)) (sym same) (subst (IsSpot after m) (sym here) itself))
+          (λ (other : n ≢ m). spot_stays k after n (get_or-set_other k.spots m n now blank_spot other) (λ c c_below is_one of_n. (is_one, of_n)) (sound.formed.places n n_below))
+          (cases_eq n m);
+    })
 
 pub one_slot_changes : OneSlotChanges
 one_slot_changes k o now sound below clean same_kind same_owner =
     let after : Kernel = record k { objects = with_slot k.objects o now } in
-    let size : o < length k.objects = omega (arith, sound.slots) in
+    let size : o < length k.objects = omega (arith, sound.formed.slots) in
     let here : slot after.objects o ≡ now = get_or-set_same k.objects o now (free_slot 0) size in
     let there = λ (u : ℕ) (other : u ≢ o). get_or-set_other k.objects o u now (free_slot 0) other in
     let threads = λ (u : ℕ). ⊎_elim {C = is_thread after u ≡ is_thread k u}
@@ -157,16 +249,23 @@ one_slot_changes k o now sound below clean same_kind same_owner =
     let owners = λ (u : ℕ) (live : is_thread k u ≡ true). ⊎_elim {C = (slot after.objects u).owner ≡ (slot k.objects u).owner}
     (λ (same : u ≡ o). subst (λ n. (slot after.objects n).owner ≡ (slot k.objects n).owner) (sym same) (ap (λ (x : Slot). x.owner) here ∙ same_owner (subst (λ n. is_thread k n ≡ true) same live)))
     (λ (other : u ≢ o). ap (λ (x : Slot). x.owner) (there u other)) (cases_eq u o) in
-    record {
-      levels = sound.levels;
-      scheduler = sound.scheduler;
-      slots = length-set k.objects o now ∙ sound.slots;
-      threads = sound.threads;
-      spots = sound.spots;
+    sound_from [] k after sound (record {
+      scheduler = sound.formed.scheduler;
+      levels = refl;
+      slots = length-set k.objects o now;
+      threads = refl;
+      spots = refl;
       clean = λ u u_below. ⊎_elim
           (λ (same : u ≡ o). subst (λ n. IsClean (slot after.objects n) (slot after.objects n).state) (sym same) (subst (λ (x : Slot). IsClean x x.state) (sym here) clean))
-          (λ (other : u ≢ o). subst (λ (x : Slot). IsClean x x.state) (sym (there u other)) (sound.clean u u_below))
+          (λ (other : u ≢ o). subst (λ (x : Slot). IsClean x x.state) (sym (there u other)) (sound.formed.clean u u_below))
           (cases_eq u o);
-      entries = λ u u_below. subst (IsEntry after u) (sym (threads u)) (entry_with_owner k after u (is_thread k u) (owners u) (λ live. live) refl refl (sound.entries u u_below));
-      places = λ m m_below. spot_stays k after m refl (λ c c_below is_one of_m. (threads c ∙ is_one, of_m)) (sound.places m m_below);
-    }
+      entries = λ u u_below. inl (record {
+        live = threads u;
+        alike = alike_if_same (thread k u) (thread k u) refl;
+        owner = owners u;
+        ready = refl;
+        priority = refl;
+        threshold = refl;
+      });
+      places = λ m m_below. spot_stays k after m refl (λ c c_below is_one of_m. (threads c ∙ is_one, of_m)) (sound.formed.places m m_below);
+    })

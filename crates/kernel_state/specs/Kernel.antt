@@ -44,10 +44,10 @@ abbrev pub with_spot : Kernel → ℕ → Spot → Kernel
 with_spot k m now = record k { spots = slice_set k.spots m now }
 
 -- the priority that a thread has in the scheduler, and its threshold, which is never above it
-abbrev pub effective_priority : Kernel → ℕ → ℕ
+unfoldable pub effective_priority : Kernel → ℕ → ℕ
 effective_priority k t = (thread k t).priority
 
-abbrev pub effective_threshold : Kernel → ℕ → ℕ
+unfoldable pub effective_threshold : Kernel → ℕ → ℕ
 effective_threshold k t = min (thread k t).threshold (effective_priority k t)
 
 -- a thread is made in a slot: suspended, with its numbers in the scheduler
@@ -59,7 +59,11 @@ made_thread k t s =
 abbrev pub placed : Kernel → ℕ → List ℕ → ThreadSpec → Kernel
 placed k o name s = made_thread (record k { objects = after_make_live k.objects o name }) o s
 
--- an object is removed: its grants and its name end, and the slot is Empty; a module's callback thread ends with its object
+-- an object of any kind is removed: its grants and its name end, and the slot is Empty
+abbrev pub removed : Kernel → ℕ → Kernel
+removed k o = record k { objects = after_make_empty k.objects o }
+
+-- a thread that is removed is no module's callback thread any more
 abbrev pub unless_is : ℕ → Option ℕ → Option ℕ
 unless_is t None = None
 unless_is t (Some u) = if u == t then None else Some u
@@ -68,8 +72,8 @@ abbrev pub without_callback : Kernel → ℕ → Kernel
 without_callback k t =
     let m = module_of k t in with_spot k m (record (spot k m) { callback = unless_is t (spot k m).callback })
 
-abbrev pub removed : Kernel → ℕ → Kernel
-removed k t = record (without_callback k t) { objects = after_make_empty k.objects t }
+abbrev pub removed_thread : Kernel → ℕ → Kernel
+removed_thread k t = removed (without_callback k t) t
 
 -- no object, no thread, and no module has a place yet
 abbrev pub blank_kernel : Kernel

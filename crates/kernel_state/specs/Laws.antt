@@ -1,34 +1,116 @@
 -- The steps by which a kernel stays sound: one thread changes, a slot changes, a thread is made, an object is removed.
-use Rattle.std.specs.Prelude.{◌≡◌, ◌≢◌, ℕ, ◌<◌, ◌≤◌, true, List, All, Some, slice_set}
+use Rattle.std.specs.Prelude.{◌≡◌, ◌≢◌, ◌⊎◌, ℕ, ◌<◌, ◌≤◌, true, false, List, [], length, All, Some, slice_set}
 use Rattle.tx_types.specs.declared.kind.Kind.TheVariants.{Thread as ThreadKind}
+use Rattle.tx_types.specs.declared.state.State.TheVariants.{Ready}
 use Rattle.object_grants.specs.Slot.{is_in, is_kind}
 use Rattle.object_grants.specs.Table.{slot, with_slot}
 use Rattle.object_grants.specs.declared.slot.Slot.{Slot}
 use Rattle.object_grants.specs.declared.slot.SlotState.TheVariants.{Empty}
-use Rattle.ready_maps.specs.Sched.{Sched, is_ready}
+use Rattle.ready_maps.specs.Kept.{IsKept}
+use Rattle.ready_maps.specs.Sched.{Sched, has, is_ready, pr, th}
 use Rattle.rv_core.specs.Hart.{HartState}
-use Rattle.kernel_state.specs.Kernel.{thread, with_thread, has_thread, is_thread, module_of, placed, removed}
+use Rattle.kernel_state.specs.Kernel.{thread, with_thread, has_thread, is_thread, module_of, spot, with_spot, placed, removed_thread, effective_priority, effective_threshold}
 use Rattle.kernel_state.specs.Scheduling.{ChangesOnly}
-use Rattle.kernel_state.specs.Sound.{IsSound, IsThread, IsClean}
-use Rattle.kernel_state.specs.Thread.{is_over}
+use Rattle.kernel_state.specs.Sound.{IsSound, IsSoundBut, IsSettled, IsEntry, IsSpot, IsClean, IsSlice}
+use Rattle.kernel_state.specs.Thread.{is_over, is_state, is_waiting}
 use Rattle.kernel_state.specs.declared.kernel.Kernel.{Kernel}
+use Rattle.kernel_state.specs.declared.spot.Spot.{Spot}
 use Rattle.kernel_state.specs.declared.thread.Thread.{Thread}
 use Rattle.kernel_state.specs.declared.thread.ThreadSpec.{ThreadSpec}
+
+-- a thread with the same user's priority has the same effective one, and with the same threshold too the same effective pair
+abbrev pub EffectiveStays : Type 0
+EffectiveStays =
+    (k now : Kernel) (t : ℕ) → (thread now t).priority ≡ (thread k t).priority
+    → (effective_priority now t ≡ effective_priority k t)
+    × ((thread now t).threshold ≡ (thread k t).threshold → effective_threshold now t ≡ effective_threshold k t)
+
+-- an effective pair is one that the scheduler takes
+abbrev pub EffectiveFits : Type 0
+EffectiveFits =
+    (k : Kernel) (t : ℕ) → (thread k t).priority < k.ready.levels
+    → (effective_threshold k t ≤ effective_priority k t) × (effective_priority k t < k.ready.levels)
+
+-- two entries are the same in all that soundness asks of a thread: in all but registers, and whether it was ever started
+pub record AreAlike (a b : Thread) : Type 0 where
+  pub «module» : b.module ≡ a.module
+  pub state : b.state ≡ a.state
+  pub priority : b.priority ≡ a.priority
+  pub threshold : b.threshold ≡ a.threshold
+  pub slice : b.slice ≡ a.slice
+  pub left : b.left ≡ a.left
+  pub held : b.held ≡ a.held
+
+-- a number stays a thread, or none, and looks the same
+pub record EntryStays (k now : Kernel) (u : ℕ) : Type 0 where
+  pub live : is_thread now u ≡ is_thread k u
+  pub alike : AreAlike (thread k u) (thread now u)
+  pub owner : is_thread k u ≡ true → (slot now.objects u).owner ≡ (slot k.objects u).owner
+  pub ready : is_ready now.ready u ≡ is_ready k.ready u
+  pub priority : pr now.ready u ≡ pr k.ready u
+  pub threshold : th now.ready u ≡ th k.ready u
+
+-- a number is right: a thread with its facts and, but for some, settled; or no thread, and not ready
+pub record IsRight (but : List ℕ) (k : Kernel) (u : ℕ) : Type 0 where
+  pub entry : IsEntry k u (is_thread k u)
+  pub settled : is_thread k u ≡ true → has u but ≡ false → IsSettled k u
+
+-- a kernel is sound where another was: each number looks the same or is right, and slots and spots are as they must be
+pub record IsSoundFrom (but : List ℕ) (k now : Kernel) : Type 0 where
+  pub scheduler : IsKept now.ready
+  pub levels : now.ready.levels ≡ k.ready.levels
+  pub slots : length now.objects ≡ length k.objects
+  pub threads : length now.threads ≡ length k.threads
+  pub spots : length now.spots ≡ length k.spots
+  pub clean : (o : ℕ) → o < 256 → IsClean (slot now.objects o) (slot now.objects o).state
+  pub entries : (u : ℕ) → u < 256 → EntryStays k now u ⊎ IsRight but now u
+  pub places : (m : ℕ) → m < 16 → IsSpot now m (spot now m)
+
+abbrev pub SoundFrom : Type 0
+SoundFrom = (but : List ℕ) (k now : Kernel) → IsSoundBut but k → IsSoundFrom but k now → IsSoundBut but now
 
 -- a thread and the scheduler
 abbrev pub with_both : Kernel → ℕ → Thread → Sched → Kernel
 with_both k t now s = record k { threads = slice_set k.threads t now; ready = s }
 
+-- the own facts of a thread that changes, by the scheduler that goes with it
+pub record Suits (s : Sched) (t : ℕ) (now : Thread) : Type 0 where
+  pub ready : is_ready s t ≡ is_state now.state Ready
+  pub priority : now.priority < s.levels
+  pub threshold : now.threshold ≤ now.priority
+  pub slice : IsSlice now.slice now.left
+  pub held : now.held ≡ true → is_waiting now.state ≡ true
+
 -- one thread and the scheduler change, and agree
 abbrev pub OneThreadChanges : Type 0
 OneThreadChanges =
-    (k : Kernel) (t : ℕ) (now : Thread) (s : Sched) → IsSound k → t < 256 → is_thread k t ≡ true → now.module ≡ module_of k t
-    → ChangesOnly k.ready s t → IsThread (with_both k t now s) t → IsSound (with_both k t now s)
+    (but : List ℕ) (k : Kernel) (t : ℕ) (now : Thread) (s : Sched) → IsSoundBut but k → is_thread k t ≡ true
+    → now.module ≡ module_of k t → ChangesOnly k.ready s t → Suits s t now
+    → (has t but ≡ false → IsSettled (with_both k t now s) t) → IsSoundBut but (with_both k t now s)
+
+-- so it is where the thread keeps its numbers, in the scheduler too
+pub record KeepsNumbers (k : Kernel) (t : ℕ) (now : Thread) (s : Sched) : Type 0 where
+  pub «module» : now.module ≡ module_of k t
+  pub priority : now.priority ≡ (thread k t).priority
+  pub threshold : now.threshold ≡ (thread k t).threshold
+  pub others : ChangesOnly k.ready s t
+  pub in_scheduler : pr s t ≡ pr k.ready t
+  pub threshold_in_scheduler : th s t ≡ th k.ready t
+
+abbrev pub OneStateChanges : Type 0
+OneStateChanges =
+    (but : List ℕ) (k : Kernel) (t : ℕ) (now : Thread) (s : Sched) → IsSoundBut but k → is_thread k t ≡ true
+    → KeepsNumbers k t now s → is_ready s t ≡ is_state now.state Ready → IsSlice now.slice now.left
+    → (now.held ≡ true → is_waiting now.state ≡ true) → IsSoundBut but (with_both k t now s)
 
 -- a thread's registers change
 abbrev pub OneHartChanges : Type 0
 OneHartChanges =
     (k : Kernel) (t : ℕ) (h : HartState) → IsSound k → t < 256 → IsSound (with_thread k t (record (thread k t) { hart = h }))
+
+-- a module's spot changes
+abbrev pub OneSpotChanges : Type 0
+OneSpotChanges = (k : Kernel) (m : ℕ) (now : Spot) → IsSound k → IsSpot k m now → IsSound (with_spot k m now)
 
 -- a slot changes, and is a thread's as before
 abbrev pub OneSlotChanges : Type 0
@@ -49,7 +131,8 @@ OneThreadIsMade =
 -- a thread that is over is removed
 abbrev pub OneThreadIsRemoved : Type 0
 OneThreadIsRemoved =
-    (k : Kernel) (t : ℕ) → IsSound k → t < 256 → is_thread k t ≡ true → is_over (thread k t).state ≡ true → IsSound (removed k t)
+    (k : Kernel) (t : ℕ) → IsSound k → t < 256 → is_thread k t ≡ true → is_over (thread k t).state ≡ true
+    → IsSound (removed_thread k t)
 
 -- the running thread is ready, and who is ready is a thread
 abbrev pub RunningIsReady : Type 0
@@ -57,3 +140,7 @@ RunningIsReady = (k : Kernel) (t : ℕ) → IsSound k → k.ready.run ≡ Some t
 
 abbrev pub ReadyIsThread : Type 0
 ReadyIsThread = (k : Kernel) (t : ℕ) → IsSound k → is_ready k.ready t ≡ true → is_thread k t ≡ true
+
+-- a thread of a sound kernel has its facts, a number below 256, and its effective pair in the scheduler
+abbrev pub ThreadIsRight : Type 0
+ThreadIsRight = (k : Kernel) (t : ℕ) → IsSound k → is_thread k t ≡ true → (t < 256) × IsRight [] k t

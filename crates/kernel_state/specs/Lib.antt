@@ -1,11 +1,16 @@
+pub mod Change
 pub mod Entries
 pub mod Kernel
 pub mod Laws
 pub mod Lending
 pub mod Outcome
+pub mod Registers
 pub mod Rows
 pub mod Scheduling
+pub mod Serves
 pub mod Sound
 pub mod Spot
 pub mod Tests
 pub mod Thread
+pub mod ThreadChanges
+pub mod ThreadLaws

@@ -3,24 +3,25 @@
 use Rattle.std.specs.Prelude.{ℕ, Bool, Option, None, Some, Result, Ok, Err, if◌then◌else◌}
 use Rattle.tx_types.specs.Code.{success}
 use Rattle.region_guard.specs.Memory.{Memory}
+use Rattle.kernel_state.specs.Change.{Change, quiet}
 use Rattle.kernel_state.specs.declared.answer.Answer.{Answer}
 use Rattle.kernel_state.specs.declared.answer.Answer.TheVariants.{Code}
 use Rattle.kernel_state.specs.declared.kernel.Kernel.{Kernel}
 
 pub record Outcome : Type 0 where
-  pub kernel : Kernel
-  pub memory : Memory
+  pub change : Change
   pub answer : Answer
 
--- nothing changes but as given, and the answer is this
-abbrev pub answering : Kernel → Memory → Answer → Outcome
-answering k g a = record { kernel = k; memory = g; answer = a }
+-- a change is made, and the answer is this
+abbrev pub answering : Change → Answer → Outcome
+answering c a = record { change = c; answer = a }
 
+abbrev pub done : Change → Outcome
+done c = answering c (Code success)
+
+-- kernel and memory are as given, and the answer is a status
 abbrev pub answered : Kernel → Memory → ℕ → Outcome
-answered k g c = answering k g (Code c)
-
-abbrev pub done : Kernel → Memory → Outcome
-done k g = answered k g success
+answered k g c = answering (quiet k g) (Code c)
 
 -- a refusal, where there is one, comes before the change
 abbrev pub unless : Kernel → Memory → Option ℕ → Outcome → Outcome

@@ -8,7 +8,7 @@ ghost use Rattle.ready_maps.specs.Sched.{is_ready};
 ghost use Rattle.object_grants.specs.Slot.{is_in, is_kind};
 ghost use Rattle.object_grants.specs.Table.{slot};
 ghost use Rattle.object_grants.specs.declared.slot.SlotState.TheVariants.{Free, Empty};
-ghost use Rattle.kernel_state.specs.Kernel.{thread, is_thread, spot, with_spot, module_of, made_thread, placed, removed, blank_kernel, effective_priority, effective_threshold};
+ghost use Rattle.kernel_state.specs.Kernel.{thread, is_thread, spot, with_spot, module_of, made_thread, placed, removed, removed_thread, blank_kernel, effective_priority, effective_threshold};
 ghost use Rattle.kernel_state.specs.Lending.{LendsThread, LendsHart};
 ghost use Rattle.kernel_state.specs.Sound.{IsSound, IsSpot};
 ghost use Rattle.kernel_state.specs.Thread.{is_state};
@@ -17,14 +17,14 @@ use crate::laws::a_kernel_stays_sound;
 use crate::spot::{Spot, Spots};
 use crate::thread::{Thread, ThreadSpec};
 use crate::threads::Threads;
-use object_grants::Objects;
+use object_grants::{Objects, SlotState};
 use ready_maps::Ready;
 use rv_core::Hart;
 use std::alloc::Global;
 use tx_types::{Kind, ModNo, Name, NoMemory, ObjNo, Prio, State, ThreadNo, Thresh};
 
-/// How many priorities there are.
-pub const PRIORITIES: u16 = 32;
+/// How many priorities a new kernel has.
+const PRIORITIES: u16 = 32;
 
 /// The object slots, the threads, the scheduler and the spots of modules. It has all memory that a
 /// service ever needs.
@@ -152,6 +152,7 @@ impl Kernel {
         requires level { s.priority < self.old.ready.levels }
         ensures after { self.new ≡ placed self.old o name s }
         ensures live { is_thread self.new o ≡ true }
+        ensures levels { self.new.ready.levels ≡ self.old.ready.levels }
         ensures suspended { is_state (thread self.new o).state State.Suspended ≡ true }
         ensures sound { IsSound self.new }
     {
@@ -162,14 +163,14 @@ impl Kernel {
 
     /// How many priorities there are.
     pub fn priorities(&self) -> u16
-        requires { IsSound self.now }
         ensures { result ≡ self.now.ready.levels }
     {
-        PRIORITIES
+        self.ready.priorities()
     }
 
     /// The priority that a thread has in the scheduler.
     #[inline]
+    #[tactic(auto, unfolding(crate::specs::Kernel::effective_priority))]
     pub fn effective_priority(&self, t: ThreadNo) -> Prio
         ensures { result ≡ effective_priority self.now t }
     {
@@ -178,23 +179,41 @@ impl Kernel {
 
     /// The threshold that a thread has in the scheduler: the user's, but never above its priority there.
     #[inline]
+    #[tactic(auto, unfolding(crate::specs::Kernel::effective_threshold))]
     pub fn effective_threshold(&self, t: ThreadNo) -> Thresh
-        ensures { result ≡ effective_threshold self.now t }
+        ensures value { result ≡ effective_threshold self.now t }
+        ensures at_most { result ≤ effective_priority self.now t }
     {
         let threshold = self.thread(t).threshold.number();
         Thresh::new(threshold.min(self.effective_priority(t).number()))
     }
 
-    /// Removes a thread's object: its grants and its name end, its slot is Empty, and it is no module's
-    /// callback thread any more.
-    pub fn remove(&mut self, t: ThreadNo)
+    /// Whether a slot has a thread.
+    #[inline]
+    pub fn is_thread(&self, o: ObjNo) -> bool
+        ensures { result ≡ is_thread self.now o }
+    {
+        let slot = self.objects.slot(o);
+        slot.is_in(SlotState::Live) && slot.is_kind(Kind::Thread)
+    }
+
+    /// Removes an object of any kind: its grants and its name end, and its slot is Empty.
+    pub fn remove(&mut self, o: ObjNo)
+        requires { is_in Free (slot self.old.objects o) ≡ false }
+        ensures { self.new ≡ removed self.old o }
+    {
+        self.objects.make_empty(o);
+    }
+
+    /// Removes a thread's object, which is no module's callback thread any more.
+    pub fn remove_thread(&mut self, t: ThreadNo)
         requires { is_in Free (slot self.old.objects t) ≡ false }
-        ensures { self.new ≡ removed self.old t }
+        ensures { self.new ≡ removed_thread self.old t }
     {
         let m = self.module_of(t);
         let spot = self.spot(m);
         let callback = spot.callback.filter(|u| *u != t);
         self.set_spot(m, Spot { callback, ..spot });
-        self.objects.make_empty(t);
+        self.remove(t);
     }
 }

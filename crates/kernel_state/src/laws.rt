@@ -2,7 +2,8 @@
 //!
 //! Their bodies do nothing; a function calls one where its proof needs the law.
 ghost use Rattle.kernel_state.specs.Scheduling.{ReadyChangesOne, UnreadyChangesOne, YieldChangesNone, ThresholdChangesOne, PriorityChangesOne};
-ghost use Rattle.kernel_state.specs.Laws.{OneThreadChanges, OneHartChanges, OneSlotChanges, OneThreadIsMade, OneThreadIsRemoved, RunningIsReady, ReadyIsThread};
+ghost use Rattle.kernel_state.specs.Laws.{EffectiveStays, EffectiveFits, SoundFrom, OneThreadChanges, OneStateChanges, OneHartChanges, OneSlotChanges, OneSpotChanges, OneThreadIsMade, OneThreadIsRemoved, RunningIsReady, ReadyIsThread, ThreadIsRight};
+ghost use Rattle.kernel_state.specs.ThreadLaws.{ReadyKeepsSound, UnreadyKeepsSound, HeldKeepsSound, FreshKeepsSound, StartKeepsServing, SuspendKeepsServing, EndKeepsServing, ResetKeepsServing};
 
 use ready_maps::laws::{a_move_changes_its_thread_alone, moves_keep_the_facts};
 
@@ -18,21 +19,56 @@ pub fn a_move_leaves_others_alone()
     a_move_changes_its_thread_alone();
 }
 
-/// A sound kernel stays sound where one thread changes and agrees with the scheduler, where a
-/// thread's registers change, where a slot changes that isn't made or unmade a thread, where a
-/// thread is made, and where one is removed.
+/// The pair that a thread is to have in the scheduler: it stays where the user's numbers do, and the
+/// scheduler takes it.
+pub fn an_effective_pair_fits()
+    ensures stays { EffectiveStays }
+    ensures fits { EffectiveFits }
+{}
+
+/// A kernel is sound where another was, if each number looks the same or is right. So it stays sound
+/// where one thread changes and agrees with the scheduler, where a thread's registers change, where a
+/// slot changes that isn't made or unmade a thread, where a module's spot changes, where a thread is
+/// made, and where one is removed.
 pub fn a_kernel_stays_sound()
+    ensures from { SoundFrom }
     ensures one_thread_changes { OneThreadChanges }
+    ensures one_state_changes { OneStateChanges }
     ensures one_hart_changes { OneHartChanges }
     ensures one_slot_changes { OneSlotChanges }
+    ensures one_spot_changes { OneSpotChanges }
     ensures one_thread_is_made { OneThreadIsMade }
     ensures one_thread_is_removed { OneThreadIsRemoved }
 {
     a_move_leaves_others_alone();
 }
 
-/// The running thread is ready, and each ready number is a thread's.
+/// Readying a thread and taking it from the ready ones, a suspension that is held, and the mark of a
+/// thread that was never started.
+pub fn a_change_of_state_keeps_sound()
+    ensures ready { ReadyKeepsSound }
+    ensures unready { UnreadyKeepsSound }
+    ensures held { HeldKeepsSound }
+    ensures fresh { FreshKeepsSound }
+{
+    a_kernel_stays_sound();
+    a_move_leaves_others_alone();
+}
+
+/// Starting, suspending, ending and resetting a thread.
+pub fn a_change_of_state_keeps_serving()
+    ensures start { StartKeepsServing }
+    ensures suspend { SuspendKeepsServing }
+    ensures ending { EndKeepsServing }
+    ensures reset { ResetKeepsServing }
+{
+    a_kernel_stays_sound();
+    a_move_leaves_others_alone();
+}
+
+/// The running thread is ready, each ready number is a thread's, and each thread has its facts.
 pub fn who_runs_is_a_thread()
     ensures running_is_ready { RunningIsReady }
     ensures ready_is_thread { ReadyIsThread }
+    ensures thread_is_right { ThreadIsRight }
 {}

@@ -3,93 +3,128 @@ use Rattle.std.proofs.Common.{◌≡◌, ◌≢◌, ℕ, ◌<◌, true, false, O
 use Rattle.std.proofs.lemmas.Bool.{cases_eq, false≢true, false_from_ne_true}
 use Rattle.object_grants.specs.Slot.{owns, without_grant}
 use Rattle.object_grants.specs.Table.{slot}
+use Rattle.region_guard.specs.Memory.{Memory}
 use Rattle.kernel_state.specs.Kernel.{thread, has_thread, is_thread, module_of, spot}
 use Rattle.kernel_state.specs.Laws.{OneSlotChanges, OneThreadIsRemoved}
+use Rattle.kernel_state.specs.Serves.{Serves}
 use Rattle.kernel_state.specs.Sound.{IsSound}
+use Rattle.kernel_state.specs.Thread.{is_over}
+use Rattle.kernel_state.specs.ThreadLaws.{EndKeepsServing}
 use Rattle.kernel_state.specs.declared.kernel.Kernel.{Kernel}
 use Rattle.kernel_state.specs.declared.thread.Thread.{Thread}
-use Rattle.thread_calls.specs.Laws.{EndKeepsSound}
-use Rattle.module_manager.specs.Halt.{all_cleared, all_ended, clearing, ending, halted}
-use Rattle.module_manager.specs.Laws.{HaltEndsCallback, HaltEndsGrants, HaltEndsSlots, HaltKeepsSound, HaltSparesSlots, HaltSparesThreads}
-use Rattle.module_manager.proofs.Clearing.{all_cleared-sound-free, by_clearing, clearing-other, clearing-thread, owner-thread, owner_is, owns-thread}
-use Rattle.module_manager.proofs.Ending.{all_ended-sound-over, below_256, by_ending, ending-objects, ending-other}
-use Rattle.module_manager.proofs.Folds.{each_below_keeps}
-use Rattle.module_manager.proofs.Ungranting.{all_ungranted-grants, all_ungranted-is, all_ungranted-owns, all_ungranted-thread, without_grant-thread}
+use Rattle.module_manager.specs.Halt.{clearing, ending, halted, slots_cleared, threads_ended}
+use Rattle.module_manager.specs.Laws.{HaltEndsCallback, HaltEndsGrants, HaltEndsSlots, HaltKeepsMemory, HaltKeepsServing, HaltLeavesThreads, HaltSparesSlots, HaltSparesThreads}
+use Rattle.module_manager.proofs.Clearing.{slots_cleared-memory, slots_cleared-sound-free, by_clearing, clearing-other, clearing-thread, owner-thread, owner_is, owns-thread}
+use Rattle.module_manager.proofs.Ending.{threads_ended-memory, threads_ended-sound-over, below_256, by_ending, ending-objects, ending-other}
+use Rattle.module_manager.proofs.Folds.{for_each_slot_keeps}
+use Rattle.module_manager.proofs.Ungranting.{ties_ended-grants, ties_ended-is, ties_ended-memory, ties_ended-owns, ties_ended-thread, without_grant-thread}
+
+-- the laws of the layer below
+pub record Lower : Type 0 where
+  pub ends : EndKeepsServing
+  pub changes : OneSlotChanges
+  pub removes : OneThreadIsRemoved
+
+-- kernel and memory after each step but the last
+abbrev kernel_1 : Kernel → Memory → ℕ → Kernel
+kernel_1 k g m = (threads_ended k g m).kernel
+
+abbrev memory_1 : Kernel → Memory → ℕ → Memory
+memory_1 k g m = (threads_ended k g m).memory
+
+abbrev kernel_3 : Kernel → Memory → ℕ → Kernel
+kernel_3 k g m = (slots_cleared (kernel_1 k g m) (memory_1 k g m) m).kernel
+
+abbrev memory_3 : Kernel → Memory → ℕ → Memory
+memory_3 k g m = (slots_cleared (kernel_1 k g m) (memory_1 k g m) m).memory
 
 -- the threads' end leaves every slot, and each thread of another module
-all_ended-objects : (m : ℕ) (k : Kernel) → (all_ended k m).objects ≡ k.objects
-all_ended-objects m k =
-    each_below_keeps (λ n j. j.objects ≡ k.objects) (ending m) 256 (λ n j below same. ending-objects m j n ∙ same) k refl
+threads_ended-objects : (m : ℕ) (k : Kernel) (g : Memory) → (threads_ended k g m).kernel.objects ≡ k.objects
+threads_ended-objects m k g =
+    for_each_slot_keeps (λ n j. j.objects ≡ k.objects) (ending m) (λ n j h below same. ending-objects m j h n ∙ same) k g refl
 
-one-ending-spares : (m : ℕ) (k j : Kernel) (t n : ℕ) → module_of k t ≢ m → thread j t ≡ thread k t → thread (ending m j n) t ≡ thread k t
-one-ending-spares m k j t n other_module same =
-    ⊎_elim (λ (here : t ≡ n). subst (λ i. thread (ending m j i) t ≡ thread k t) here
-    (by_ending m j t (λ i. thread i t ≡ thread k t) (λ _. same) (λ _ _ _. same)
+one-ending-spares : (m : ℕ) (k j : Kernel) (h : Memory) (t n : ℕ) → module_of k t ≢ m → thread j t ≡ thread k t → thread (ending m j h n).kernel t ≡ thread k t
+one-ending-spares m k j h t n other_module same =
+    ⊎_elim (λ (here : t ≡ n). subst (λ i. thread (ending m j h i).kernel t ≡ thread k t) here
+    (by_ending m j h t (λ i. thread i t ≡ thread k t) (λ _. same) (λ _ _ _. same)
     (λ _ own _. absurd (other_module (sym (ap (λ (x : Thread). x.module) same) ∙ own)))))
-    (λ (other : t ≢ n). ending-other m j n t other ∙ same) (cases_eq t n)
+    (λ (other : t ≢ n). ending-other m j h n t other ∙ same) (cases_eq t n)
 
-all_ended-spares : (m : ℕ) (k : Kernel) (t : ℕ) → module_of k t ≢ m → thread (all_ended k m) t ≡ thread k t
-all_ended-spares m k t other_module =
-    each_below_keeps (λ n j. thread j t ≡ thread k t) (ending m) 256 (λ n j below same. one-ending-spares m k j t n other_module same) k refl
+threads_ended-spares : (m : ℕ) (k : Kernel) (g : Memory) (t : ℕ) → module_of k t ≢ m → thread (threads_ended k g m).kernel t ≡ thread k t
+threads_ended-spares m k g t other_module =
+    for_each_slot_keeps (λ n j. thread j t ≡ thread k t) (ending m) (λ n j h below same. one-ending-spares m k j h t n other_module same) k g refl
 
 -- the slots' end leaves every thread's entry, and each slot that isn't the module's
-all_cleared-thread : (m : ℕ) (k : Kernel) (t : ℕ) → thread (all_cleared k m) t ≡ thread k t
-all_cleared-thread m k t =
-    each_below_keeps (λ n j. thread j t ≡ thread k t) (clearing m) 256 (λ n j below same. clearing-thread m j n t ∙ same) k refl
+slots_cleared-thread : (m : ℕ) (k : Kernel) (g : Memory) (t : ℕ) → thread (slots_cleared k g m).kernel t ≡ thread k t
+slots_cleared-thread m k g t =
+    for_each_slot_keeps (λ n j. thread j t ≡ thread k t) (clearing m) (λ n j h below same. clearing-thread m j h n t ∙ same) k g refl
 
-one-clearing-spares : (m : ℕ) (k j : Kernel) (o n : ℕ) → owns m (slot k.objects o) ≡ false → slot j.objects o ≡ slot k.objects o → slot (clearing m j n).objects o ≡ slot k.objects o
-one-clearing-spares m k j o n others same =
+one-clearing-spares : (m : ℕ) (k j : Kernel) (h : Memory) (o n : ℕ) → owns m (slot k.objects o) ≡ false → slot j.objects o ≡ slot k.objects o
+    → slot (clearing m j h n).kernel.objects o ≡ slot k.objects o
+one-clearing-spares m k j h o n others same =
     let not_own = λ (own : owns m (slot j.objects o) ≡ true). false≢true (sym others ∙ (sym (ap (owns m) same) ∙ own)) in
-    ⊎_elim (λ (here : o ≡ n). subst (λ i. slot (clearing m j i).objects o ≡ slot k.objects o) here
-    (by_clearing m j o (λ i. slot i.objects o ≡ slot k.objects o) (λ _. same) (λ own _. absurd (not_own own)) (λ own _. absurd (not_own own))))
-    (λ (other : o ≢ n). clearing-other m j n o other ∙ same) (cases_eq o n)
+    ⊎_elim (λ (here : o ≡ n). subst (λ i. slot (clearing m j h i).kernel.objects o ≡ slot k.objects o) here
+    (by_clearing m j h o (λ i. slot i.objects o ≡ slot k.objects o) (λ _. same) (λ own _. absurd (not_own own)) (λ own _. absurd (not_own own))))
+    (λ (other : o ≢ n). clearing-other m j h n o other ∙ same) (cases_eq o n)
 
-all_cleared-spares : (m : ℕ) (k : Kernel) (o : ℕ) → owns m (slot k.objects o) ≡ false → slot (all_cleared k m).objects o ≡ slot k.objects o
-all_cleared-spares m k o others =
-    each_below_keeps (λ n j. slot j.objects o ≡ slot k.objects o) (clearing m) 256 (λ n j below same. one-clearing-spares m k j o n others same) k refl
+slots_cleared-spares : (m : ℕ) (k : Kernel) (g : Memory) (o : ℕ) → owns m (slot k.objects o) ≡ false → slot (slots_cleared k g m).kernel.objects o ≡ slot k.objects o
+slots_cleared-spares m k g o others =
+    for_each_slot_keeps (λ n j. slot j.objects o ≡ slot k.objects o) (clearing m) (λ n j h below same. one-clearing-spares m k j h o n others same) k g refl
 
 -- a halt up to its last step
-before_last : EndKeepsSound → OneSlotChanges → OneThreadIsRemoved → (m : ℕ) (k : Kernel) → IsSound k
-    → IsSound (all_cleared (all_ended k m) m) × ((o : ℕ) → owns m (slot (all_cleared (all_ended k m) m).objects o) ≡ false)
-before_last ends changes removes m k sound =
-    let over = all_ended-sound-over ends m k sound in
-    all_cleared-sound-free changes removes m (all_ended k m) over.0 over.1
+before_last : Lower → (m : ℕ) (k : Kernel) (g : Memory) → IsSound k
+    → IsSound (kernel_3 k g m) × ((o : ℕ) → owns m (slot (kernel_3 k g m).objects o) ≡ false)
+before_last lower m k g sound =
+    let over = threads_ended-sound-over lower.ends m k g sound in
+    slots_cleared-sound-free lower.changes lower.removes m (kernel_1 k g m) (memory_1 k g m) over.0 over.1
 
-pub halt_keeps_sound : EndKeepsSound → OneSlotChanges → OneThreadIsRemoved → HaltKeepsSound
-halt_keeps_sound ends changes removes k m sound =
-    (all_ungranted-is changes m (all_cleared (all_ended k m) m) (before_last ends changes removes m k sound).0).0
+halt-sound : Lower → (k : Kernel) (g : Memory) (m : ℕ) → IsSound k → IsSound (halted k g m).kernel
+halt-sound lower k g m sound = (ties_ended-is lower.changes m (kernel_3 k g m) (memory_3 k g m) (before_last lower m k g sound).0).0
 
-pub halt_spares_slots : EndKeepsSound → OneSlotChanges → OneThreadIsRemoved → HaltSparesSlots
-halt_spares_slots ends changes removes k m o sound below others =
-    let last = before_last ends changes removes m k sound in
-    let stays : slot (all_ended k m).objects o ≡ slot k.objects o = ap (λ slots. slot slots o) (all_ended-objects m k) in
-    (all_ungranted-is changes m (all_cleared (all_ended k m) m) last.0).1 o below
-    ∙ ap (without_grant m) (all_cleared-spares m (all_ended k m) o (ap (owns m) stays ∙ others) ∙ stays)
+pub halt_keeps_serving : Lower → HaltKeepsServing
+halt_keeps_serving lower k g m serves = record { sound = halt-sound lower k g m serves.sound }
 
-pub halt_spares_threads : EndKeepsSound → OneSlotChanges → OneThreadIsRemoved → HaltSparesThreads
-halt_spares_threads ends changes removes k m t sound live other_module =
+pub halt_keeps_memory : HaltKeepsMemory
+halt_keeps_memory k g m =
+    ties_ended-memory (kernel_3 k g m) (memory_3 k g m) m ∙ (slots_cleared-memory (kernel_1 k g m) (memory_1 k g m) m ∙ threads_ended-memory k g m)
+
+pub halt_spares_slots : Lower → HaltSparesSlots
+halt_spares_slots lower k g m o sound below others =
+    let last = before_last lower m k g sound in
+    let stays : slot (kernel_1 k g m).objects o ≡ slot k.objects o = ap (λ slots. slot slots o) (threads_ended-objects m k g) in
+    (ties_ended-is lower.changes m (kernel_3 k g m) (memory_3 k g m) last.0).1 o below
+    ∙ ap (without_grant m) (slots_cleared-spares m (kernel_1 k g m) (memory_1 k g m) o (ap (owns m) stays ∙ others) ∙ stays)
+
+pub halt_leaves_threads : Lower → HaltLeavesThreads
+halt_leaves_threads lower k g m t sound live other_module =
     let others = false_from_ne_true (owns m (slot k.objects t)) (λ own. other_module (owner-thread k t sound live ∙ owner_is m (slot k.objects t) own)) in (
-      ap has_thread (halt_spares_slots ends changes removes k m t sound (below_256 k t sound live) others) ∙ (without_grant-thread m (slot k.objects t) ∙ live),
-      all_ungranted-thread m (all_cleared (all_ended k m) m) t ∙ (all_cleared-thread m (all_ended k m) t ∙ all_ended-spares m k t other_module),
+      ap has_thread (halt_spares_slots lower k g m t sound (below_256 k t sound live) others) ∙ (without_grant-thread m (slot k.objects t) ∙ live),
+      ties_ended-thread m (kernel_3 k g m) (memory_3 k g m) t
+          ∙ (slots_cleared-thread m (kernel_1 k g m) (memory_1 k g m) t ∙ threads_ended-spares m k g t other_module),
     )
 
-pub halt_ends_slots : EndKeepsSound → OneSlotChanges → OneThreadIsRemoved → HaltEndsSlots
-halt_ends_slots ends changes removes k m o sound =
-    let last = before_last ends changes removes m k sound in
-    all_ungranted-owns changes m (all_cleared (all_ended k m) m) o last.0 (last.1 o)
+pub halt_spares_threads : Lower → HaltSparesThreads
+halt_spares_threads lower k g m t sound live other_module =
+    let same = halt_leaves_threads lower k g m t sound live other_module in
+    (same.0, ap (λ (x : Thread). x.module) same.1, ap (λ (x : Thread). is_over x.state) same.1)
 
-pub halt_ends_grants : EndKeepsSound → OneSlotChanges → OneThreadIsRemoved → HaltEndsGrants
-halt_ends_grants ends changes removes k m o sound =
-    all_ungranted-grants changes m (all_cleared (all_ended k m) m) o (before_last ends changes removes m k sound).0
+pub halt_ends_slots : Lower → HaltEndsSlots
+halt_ends_slots lower k g m o sound =
+    let last = before_last lower m k g sound in
+    ties_ended-owns lower.changes m (kernel_3 k g m) (memory_3 k g m) o last.0 (last.1 o)
+
+pub halt_ends_grants : Lower → HaltEndsGrants
+halt_ends_grants lower k g m o sound =
+    ties_ended-grants lower.changes m (kernel_3 k g m) (memory_3 k g m) o (before_last lower m k g sound).0
 
 -- a callback thread would be a thread of the module's own
 none_left : (o : Option ℕ) (P : ℕ → Type 0) → IfSome o P → ((t : ℕ) → P t → ⊥) → o ≡ None
 none_left None P of_each never = refl
 none_left (Some t) P of_each never = absurd (never t of_each)
 
-pub halt_ends_callback : EndKeepsSound → OneSlotChanges → OneThreadIsRemoved → HaltEndsCallback
-halt_ends_callback ends changes removes k m sound below =
-    let after = halted k m in
-    let right : IsSound after = halt_keeps_sound ends changes removes k m sound in
-    none_left (spot after m).callback (λ t. (t < 256) × (is_thread after t ≡ true) × (module_of after t ≡ m)) (right.places m below).callback
-    (λ t own. false≢true (sym (halt_ends_slots ends changes removes k m t sound) ∙ owns-thread after t m right own.1 own.2))
+pub halt_ends_callback : Lower → HaltEndsCallback
+halt_ends_callback lower k g m sound below =
+    let after = (halted k g m).kernel in
+    let right : IsSound after = halt-sound lower k g m sound in
+    none_left (spot after m).callback (λ t. (t < 256) × (is_thread after t ≡ true) × (module_of after t ≡ m)) (right.formed.places m below).callback
+    (λ t own. false≢true (sym (halt_ends_slots lower k g m t sound) ∙ owns-thread after t m right own.1 own.2))

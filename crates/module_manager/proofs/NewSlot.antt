@@ -13,9 +13,11 @@ use Rattle.object_grants.specs.Slot.{free_slot, is_in, is_kind, is_usable, last_
 use Rattle.object_grants.specs.Table.{slot, allocated, allocated_at, after_allocate, ref_of}
 use Rattle.object_grants.specs.declared.slot.Slot.{Slot}
 use Rattle.object_grants.specs.declared.slot.SlotState.TheVariants.{Free, Live}
+use Rattle.region_guard.specs.Memory.{Memory}
 use Rattle.kernel_state.specs.Kernel.{thread, has_thread, is_thread, placed}
 use Rattle.kernel_state.specs.Sound.{IsSound}
 use Rattle.kernel_state.specs.Thread.{blank_thread, new_thread}
+use Rattle.kernel_state.specs.ThreadChanges.{started, with_fresh}
 use Rattle.kernel_state.specs.declared.kernel.Kernel.{Kernel}
 use Rattle.kernel_state.specs.declared.thread.ThreadSpec.{ThreadSpec}
 use Rattle.module_manager.specs.Start.{in_new_slot, next_slot, usable_slots}
@@ -110,7 +112,7 @@ slot_of-allocated k table r sound some answer =
     let o = next_slot k in
     let free = next-free k some in
     let named = same_Some (ref_of table o) r (sym (ap (option_map (ref_of table)) (next-usable k some)) ∙ answer) in
-    ap slot_of (sym named) ∙ slot_of-reference o (slot table o).generation (omega (arith, free.0, sound.slots))
+    ap slot_of (sym named) ∙ slot_of-reference o (slot table o).generation (omega (arith, free.0, sound.formed.slots))
 
 -- the thread was placed in the slot that was allocated
 pub placed-is : (k now : Kernel) (table : List Slot) (o : ℕ) (name : List ℕ) (s : ThreadSpec)
@@ -118,3 +120,8 @@ pub placed-is : (k now : Kernel) (table : List Slot) (o : ℕ) (name : List ℕ)
 placed-is k now table o name s after allocated here =
     after ∙ (ap (λ slots. placed (record k { objects = slots }) o name s) allocated
     ∙ ap (λ n. placed (record k { objects = after_allocate k.objects s.module ThreadKind }) n name s) here)
+
+-- a start leaves every other thread as it is
+pub started-other : (k : Kernel) (g : Memory) (t u : ℕ) → u ≢ t → thread (started k g t).kernel u ≡ thread k u
+started-other k g t u other =
+    get_or-set_other (with_fresh k t false).threads t u _ blank_thread other ∙ get_or-set_other k.threads t u _ blank_thread other

@@ -4,20 +4,29 @@ use Rattle.std.proofs.lemmas.Bool.{cond_both}
 use Rattle.std.proofs.lemmas.List.{length-replicate}
 use Rattle.flat_ram.specs.Laws.{IsOutside}
 use Rattle.module_loader.specs.Want.{want_of}
+use Rattle.module_preamble.specs.Words.{has_callback}
 use Rattle.region_guard.specs.Laws.{BytesOutsideStay, UsedIsInRam}
 use Rattle.region_guard.specs.Memory.{Memory, byte}
 use Rattle.region_guard.specs.declared.region.Access.TheVariants.{Store}
+use Rattle.kernel_state.specs.Change.{Change}
 use Rattle.kernel_state.specs.declared.kernel.Kernel.{Kernel}
-use Rattle.module_manager.specs.Laws.{StartKeepsRegions, StartWritesItsData}
+use Rattle.module_manager.specs.Laws.{BeginningKeepsMemory, StartKeepsRegions, StartWritesItsData}
 use Rattle.module_manager.specs.Modules.{module_at}
-use Rattle.module_manager.specs.Start.{StartOutcome, can_start, start_row, zeroed}
+use Rattle.module_manager.specs.Start.{StartOutcome, begun_alone, begun_both, can_start, start_row, zeroed}
 use Rattle.module_manager.specs.declared.modules.Module.{Module}
 
+-- making and starting threads changes no byte
+pub beginning_keeps_memory : BeginningKeepsMemory
+unfolding begun_both begun_alone
+beginning_keeps_memory k g m r =
+    cond_both (has_callback r.preamble) _ _ (λ (c : Change). c.memory ≡ g) (λ _. refl) (λ _. refl)
+
 -- what holds of the memory that stays, and of the one with its data region zeroed
-by_start : (rows : List Module) (k : Kernel) (g : Memory) (m : ℕ) (P : Memory → Type 0) → P (zeroed g (module_at rows m)) → P g → P (start_row rows k g m).memory
+by_start : (rows : List Module) (k : Kernel) (g : Memory) (m : ℕ) (P : Memory → Type 0) → P (zeroed g (module_at rows m)) → P g → P (start_row rows k g m).change.memory
 unfolding start_row
 by_start rows k g m P after before =
-    cond_both (can_start k (module_at rows m)) _ _ (λ (o : StartOutcome). P o.memory) (λ _. after) (λ _. before)
+    cond_both (can_start k (module_at rows m)) _ _ (λ (o : StartOutcome). P o.change.memory)
+    (λ _. subst P (sym (beginning_keeps_memory k (zeroed g (module_at rows m)) m (module_at rows m))) after) (λ _. before)
 
 pub start_keeps_regions : StartKeepsRegions
 start_keeps_regions rows k g m = by_start rows k g m (λ (now : Memory). now.regions ≡ g.regions) refl refl

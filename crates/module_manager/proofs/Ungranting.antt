@@ -10,12 +10,13 @@ use Rattle.object_grants.specs.Table.{slot}
 use Rattle.object_grants.specs.declared.slot.Slot.{Slot}
 use Rattle.object_grants.specs.declared.slot.SlotState.{SlotState}
 use Rattle.object_grants.specs.declared.slot.SlotState.TheVariants.{Free, Empty, Live}
+use Rattle.region_guard.specs.Memory.{Memory}
 use Rattle.kernel_state.specs.Kernel.{thread, has_thread}
 use Rattle.kernel_state.specs.Laws.{OneSlotChanges}
 use Rattle.kernel_state.specs.Sound.{IsSound, IsClean}
 use Rattle.kernel_state.specs.declared.kernel.Kernel.{Kernel}
-use Rattle.module_manager.specs.Halt.{all_ungranted, ungranting}
-use Rattle.module_manager.proofs.Folds.{each_below_keeps}
+use Rattle.module_manager.specs.Halt.{ties_ended, ungranting}
+use Rattle.module_manager.proofs.Folds.{for_each_slot_keeps, for_each_slot_memory}
 
 -- the bit of a grant is gone
 row_below : (j p r g : ℕ) → (j + 1) * p + r ≡ g → g - p ≡ j * p + r
@@ -59,57 +60,63 @@ still_clean m s Free granted clean = absurd (false≢true (sym (none_granted m s
 still_clean m s Empty granted clean = absurd (false≢true (sym (none_granted m s clean.0) ∙ granted))
 still_clean m s Live granted clean = clean
 
-pub ungranting-sound : OneSlotChanges → (m : ℕ) (k : Kernel) (o : ℕ) → IsSound k → o < 256 → IsSound (ungranting m k o)
-ungranting-sound changes m k o sound below =
+pub ungranting-sound : OneSlotChanges → (m : ℕ) (k : Kernel) (g : Memory) (o : ℕ) → IsSound k → o < 256 → IsSound (ungranting m k g o).kernel
+ungranting-sound changes m k g o sound below =
     let s = slot k.objects o in
     changes k o (without_grant m s) sound below
-    (by_grant m s (λ (x : Slot). IsClean x x.state) (λ granted. still_clean m s s.state granted (sound.clean o below)) (λ _. sound.clean o below))
+    (by_grant m s (λ (x : Slot). IsClean x x.state) (λ granted. still_clean m s s.state granted (sound.formed.clean o below)) (λ _. sound.formed.clean o below))
     (without_grant-thread m s) (λ _. without_grant-owner m s)
 
 -- what the slots lose, one after another
-ungranting-here : (m : ℕ) (k : Kernel) (o : ℕ) → o < length k.objects → slot (ungranting m k o).objects o ≡ without_grant m (slot k.objects o)
-ungranting-here m k o size = get_or-set_same k.objects o (without_grant m (slot k.objects o)) (free_slot 0) size
+ungranting-here : (m : ℕ) (k : Kernel) (g : Memory) (o : ℕ) → o < length k.objects → slot (ungranting m k g o).kernel.objects o ≡ without_grant m (slot k.objects o)
+ungranting-here m k g o size = get_or-set_same k.objects o (without_grant m (slot k.objects o)) (free_slot 0) size
 
-ungranting-other : (m : ℕ) (k : Kernel) (o u : ℕ) → u ≢ o → slot (ungranting m k o).objects u ≡ slot k.objects u
-ungranting-other m k o u other = get_or-set_other k.objects o u (without_grant m (slot k.objects o)) (free_slot 0) other
+ungranting-other : (m : ℕ) (k : Kernel) (g : Memory) (o u : ℕ) → u ≢ o → slot (ungranting m k g o).kernel.objects u ≡ slot k.objects u
+ungranting-other m k g o u other = get_or-set_other k.objects o u (without_grant m (slot k.objects o)) (free_slot 0) other
 
 -- of the slots of smaller numbers, each has lost the grant, and the others are as they were
 abbrev AreUngrantedBelow : ℕ → Kernel → ℕ → Kernel → Type 0
 AreUngrantedBelow m k n j =
     ((o : ℕ) → o < n → slot j.objects o ≡ without_grant m (slot k.objects o)) × ((o : ℕ) → (o < n → ⊥) → slot j.objects o ≡ slot k.objects o)
 
-one_more : (m : ℕ) (k : Kernel) (n : ℕ) (j : Kernel) → n < length j.objects → AreUngrantedBelow m k n j → AreUngrantedBelow m k (suc n) (ungranting m j n)
-one_more m k n j size before = (
+one_more_ungranted : (m : ℕ) (k : Kernel) (n : ℕ) (j : Kernel) (h : Memory) → n < length j.objects → AreUngrantedBelow m k n j → AreUngrantedBelow m k (suc n) (ungranting m j h n).kernel
+one_more_ungranted m k n j h size before = (
   λ o below. ⊎_elim
-      (λ (same : o ≡ n). subst (λ i. slot (ungranting m j n).objects i ≡ without_grant m (slot k.objects i)) (sym same)
-      (ungranting-here m j n size ∙ ap (without_grant m) (before.1 n (λ impossible. omega arith))))
-      (λ (other : o ≢ n). ungranting-other m j n o other ∙ before.0 o (omega arith)) (cases_eq o n),
-  λ o past. ungranting-other m j n o (λ same. past (omega arith)) ∙ before.1 o (λ below. past (omega arith)),
+      (λ (same : o ≡ n). subst (λ i. slot (ungranting m j h n).kernel.objects i ≡ without_grant m (slot k.objects i)) (sym same)
+      (ungranting-here m j h n size ∙ ap (without_grant m) (before.1 n (λ impossible. omega arith))))
+      (λ (other : o ≢ n). ungranting-other m j h n o other ∙ before.0 o (omega arith)) (cases_eq o n),
+  λ o past. ungranting-other m j h n o (λ same. past (omega arith)) ∙ before.1 o (λ below. past (omega arith)),
 )
 
-pub all_ungranted-is : OneSlotChanges → (m : ℕ) (k : Kernel) → IsSound k
-    → IsSound (all_ungranted k m) × ((o : ℕ) → o < 256 → slot (all_ungranted k m).objects o ≡ without_grant m (slot k.objects o))
-all_ungranted-is changes m k sound =
-    let all = each_below_keeps (λ n j. IsSound j × AreUngrantedBelow m k n j) (ungranting m) 256
-    (λ n j below kept. (ungranting-sound changes m j n kept.0 below, one_more m k n j (omega (arith, kept.0.slots)) kept.1))
-    k (sound, (λ o below. absurd (omega arith), λ o past. refl)) in
+pub ties_ended-is : OneSlotChanges → (m : ℕ) (k : Kernel) (g : Memory) → IsSound k
+    → IsSound (ties_ended k g m).kernel × ((o : ℕ) → o < 256 → slot (ties_ended k g m).kernel.objects o ≡ without_grant m (slot k.objects o))
+ties_ended-is changes m k g sound =
+    let all = for_each_slot_keeps (λ n j. IsSound j × AreUngrantedBelow m k n j) (ungranting m)
+    (λ n j h below kept. (ungranting-sound changes m j h n kept.0 below, one_more_ungranted m k n j h (omega (arith, kept.0.formed.slots)) kept.1))
+    k g (sound, (λ o below. absurd (omega arith), λ o past. refl)) in
     (all.0, all.1.0)
 
-pub all_ungranted-thread : (m : ℕ) (k : Kernel) (t : ℕ) → thread (all_ungranted k m) t ≡ thread k t
-all_ungranted-thread m k t =
-    each_below_keeps (λ n j. thread j t ≡ thread k t) (ungranting m) 256 (λ n j below same. same) k refl
+pub ties_ended-thread : (m : ℕ) (k : Kernel) (g : Memory) (t : ℕ) → thread (ties_ended k g m).kernel t ≡ thread k t
+ties_ended-thread m k g t = for_each_slot_keeps (λ n j. thread j t ≡ thread k t) (ungranting m) (λ n j h below same. same) k g refl
+
+-- no byte changes
+pub ties_ended-memory : (k : Kernel) (g : Memory) (m : ℕ) → (ties_ended k g m).memory ≡ g
+ties_ended-memory k g m = for_each_slot_memory (ungranting m) (λ j h o. refl) k g
 
 -- what holds of a slot without the grant and of a free one holds of every slot then
-at_last : (P : Slot → Type 0) → OneSlotChanges → (m : ℕ) (k : Kernel) (o : ℕ) → IsSound k → P (without_grant m (slot k.objects o)) → P (free_slot 0) → P (slot (all_ungranted k m).objects o)
-at_last P changes m k o sound inside outside =
-    let all = all_ungranted-is changes m k sound in
+at_last : (P : Slot → Type 0) → OneSlotChanges → (m : ℕ) (k : Kernel) (g : Memory) (o : ℕ) → IsSound k → P (without_grant m (slot k.objects o)) → P (free_slot 0)
+    → P (slot (ties_ended k g m).kernel.objects o)
+at_last P changes m k g o sound inside outside =
+    let now = (ties_ended k g m).kernel in
+    let all = ties_ended-is changes m k g sound in
     ⊎_elim (λ below. subst P (sym (all.1 o below)) inside)
-    (λ past. subst P (sym (get_or_past (all_ungranted k m).objects o (free_slot 0) (omega (arith, all.0.slots)))) outside) (cases_lt o 256)
+    (λ past. subst P (sym (get_or_past now.objects o (free_slot 0) (omega (arith, all.0.formed.slots)))) outside) (cases_lt o 256)
 
-pub all_ungranted-owns : OneSlotChanges → (m : ℕ) (k : Kernel) (o : ℕ) → IsSound k → owns m (slot k.objects o) ≡ false → owns m (slot (all_ungranted k m).objects o) ≡ false
-all_ungranted-owns changes m k o sound none =
-    at_last (λ (s : Slot). owns m s ≡ false) changes m k o sound (without_grant-owns m m (slot k.objects o) ∙ none) refl
+pub ties_ended-owns : OneSlotChanges → (m : ℕ) (k : Kernel) (g : Memory) (o : ℕ) → IsSound k → owns m (slot k.objects o) ≡ false
+    → owns m (slot (ties_ended k g m).kernel.objects o) ≡ false
+ties_ended-owns changes m k g o sound none =
+    at_last (λ (s : Slot). owns m s ≡ false) changes m k g o sound (without_grant-owns m m (slot k.objects o) ∙ none) refl
 
-pub all_ungranted-grants : OneSlotChanges → (m : ℕ) (k : Kernel) (o : ℕ) → IsSound k → is_granted m (slot (all_ungranted k m).objects o) ≡ false
-all_ungranted-grants changes m k o sound =
-    at_last (λ (s : Slot). is_granted m s ≡ false) changes m k o sound (without_grant-gone m (slot k.objects o)) (none_granted m (free_slot 0) refl)
+pub ties_ended-grants : OneSlotChanges → (m : ℕ) (k : Kernel) (g : Memory) (o : ℕ) → IsSound k → is_granted m (slot (ties_ended k g m).kernel.objects o) ≡ false
+ties_ended-grants changes m k g o sound =
+    at_last (λ (s : Slot). is_granted m s ≡ false) changes m k g o sound (without_grant-gone m (slot k.objects o)) (none_granted m (free_slot 0) refl)

@@ -7,43 +7,64 @@ use Rattle.module_loader.specs.Want.{want_of}
 use Rattle.region_guard.specs.Memory.{Memory, IsSound as IsSoundMemory, may, byte}
 use Rattle.region_guard.specs.declared.region.Access.TheVariants.{Store}
 use Rattle.kernel_state.specs.Kernel.{thread, is_thread, module_of, spot}
+use Rattle.kernel_state.specs.Serves.{Serves}
 use Rattle.kernel_state.specs.Sound.{IsSound}
+use Rattle.kernel_state.specs.Thread.{is_over}
 use Rattle.kernel_state.specs.declared.kernel.Kernel.{Kernel}
 use Rattle.module_manager.specs.Halt.{halted}
 use Rattle.module_manager.specs.Modules.{module_at}
-use Rattle.module_manager.specs.Start.{start_row}
+use Rattle.module_manager.specs.Start.{begun, start_row}
 use Rattle.module_manager.specs.declared.modules.Module.{Module}
 
--- a thread of another module is the same after, and still a thread
+-- a halt completes or terminates no thread of another module
 abbrev pub HaltSparesThreads : Type 0
 HaltSparesThreads =
-    (k : Kernel) (m t : ℕ) → IsSound k → is_thread k t ≡ true → module_of k t ≢ m
-    → (is_thread (halted k m) t ≡ true) × (thread (halted k m) t ≡ thread k t)
+    (k : Kernel) (g : Memory) (m t : ℕ) → IsSound k → is_thread k t ≡ true → module_of k t ≢ m
+    → let now = (halted k g m).kernel in
+    (is_thread now t ≡ true) × (module_of now t ≡ module_of k t) × (is_over (thread now t).state ≡ is_over (thread k t).state)
+
+-- it changes no byte
+abbrev pub HaltKeepsMemory : Type 0
+HaltKeepsMemory = (k : Kernel) (g : Memory) (m : ℕ) → (halted k g m).memory ≡ g
+
+-- as long as no thread waits for another module's object, each of another module is the same after
+abbrev pub HaltLeavesThreads : Type 0
+HaltLeavesThreads =
+    (k : Kernel) (g : Memory) (m t : ℕ) → IsSound k → is_thread k t ≡ true → module_of k t ≢ m
+    → (is_thread (halted k g m).kernel t ≡ true) × (thread (halted k g m).kernel t ≡ thread k t)
 
 -- a slot that isn't the module's loses the module's grant, and nothing else
 abbrev pub HaltSparesSlots : Type 0
 HaltSparesSlots =
-    (k : Kernel) (m o : ℕ) → IsSound k → o < 256 → owns m (slot k.objects o) ≡ false
-    → slot (halted k m).objects o ≡ without_grant m (slot k.objects o)
+    (k : Kernel) (g : Memory) (m o : ℕ) → IsSound k → o < 256 → owns m (slot k.objects o) ≡ false
+    → slot (halted k g m).kernel.objects o ≡ without_grant m (slot k.objects o)
 
--- a halt keeps a kernel sound
-abbrev pub HaltKeepsSound : Type 0
-HaltKeepsSound = (k : Kernel) (m : ℕ) → IsSound k → IsSound (halted k m)
+-- where a kernel serves, it serves after a halt
+abbrev pub HaltKeepsServing : Type 0
+HaltKeepsServing =
+    (k : Kernel) (g : Memory) (m : ℕ) → Serves k g → Serves (halted k g m).kernel (halted k g m).memory
 
 -- the module owns no slot any more, is granted none, and has no callback thread
 abbrev pub HaltEndsSlots : Type 0
-HaltEndsSlots = (k : Kernel) (m o : ℕ) → IsSound k → owns m (slot (halted k m).objects o) ≡ false
+HaltEndsSlots =
+    (k : Kernel) (g : Memory) (m o : ℕ) → IsSound k → owns m (slot (halted k g m).kernel.objects o) ≡ false
 
 abbrev pub HaltEndsGrants : Type 0
-HaltEndsGrants = (k : Kernel) (m o : ℕ) → IsSound k → is_granted m (slot (halted k m).objects o) ≡ false
+HaltEndsGrants =
+    (k : Kernel) (g : Memory) (m o : ℕ) → IsSound k → is_granted m (slot (halted k g m).kernel.objects o) ≡ false
 
 abbrev pub HaltEndsCallback : Type 0
-HaltEndsCallback = (k : Kernel) (m : ℕ) → IsSound k → m < 16 → (spot (halted k m) m).callback ≡ None
+HaltEndsCallback =
+    (k : Kernel) (g : Memory) (m : ℕ) → IsSound k → m < 16 → (spot (halted k g m).kernel m).callback ≡ None
+
+-- making and starting the threads of a module changes no byte
+abbrev pub BeginningKeepsMemory : Type 0
+BeginningKeepsMemory = (k : Kernel) (g : Memory) (m : ℕ) (r : Module) → (begun k g m r).memory ≡ g
 
 -- no start changes a region, or a byte outside of its module's data region
 abbrev pub StartKeepsRegions : Type 0
 StartKeepsRegions =
-    (rows : List Module) (k : Kernel) (g : Memory) (m : ℕ) → (start_row rows k g m).memory.regions ≡ g.regions
+    (rows : List Module) (k : Kernel) (g : Memory) (m : ℕ) → (start_row rows k g m).change.memory.regions ≡ g.regions
 
 abbrev pub StartWritesItsData : Type 0
 StartWritesItsData =
@@ -51,4 +72,4 @@ StartWritesItsData =
     → 0 < (want_of (module_at rows m).preamble).data_bytes
     → may g m Store (module_at rows m).placed.data_base (want_of (module_at rows m).preamble).data_bytes ≡ true
     → IsOutside (module_at rows m).placed.data_base (want_of (module_at rows m).preamble).data_bytes x
-    → byte (start_row rows k g m).memory x ≡ byte g x
+    → byte (start_row rows k g m).change.memory x ≡ byte g x

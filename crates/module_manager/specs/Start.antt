@@ -10,10 +10,11 @@ use Rattle.module_preamble.specs.declared.words.Preamble.{Preamble}
 use Rattle.module_loader.specs.Opening.{opening}
 use Rattle.module_loader.specs.Want.{want_of}
 use Rattle.region_guard.specs.Memory.{Memory, with_bytes}
+use Rattle.kernel_state.specs.Change.{Change, followed, quiet}
 use Rattle.kernel_state.specs.Kernel.{placed, spot, with_spot}
+use Rattle.kernel_state.specs.ThreadChanges.{started}
 use Rattle.kernel_state.specs.declared.kernel.Kernel.{Kernel}
 use Rattle.kernel_state.specs.declared.thread.ThreadSpec.{ThreadSpec}
-use Rattle.thread_calls.specs.Changes.{started}
 use Rattle.module_manager.specs.Modules.{may_start, module_at, with_state}
 use Rattle.module_manager.specs.declared.modules.Module.{Module}
 use Rattle.module_manager.specs.declared.modules.ModuleState.TheVariants.{Started}
@@ -71,25 +72,24 @@ abbrev pub with_callback : Kernel → ℕ → Option ℕ → Kernel
 with_callback k m t = with_spot k m (record (spot k m) { callback = t })
 
 -- the start thread is made, and started
-unfoldable pub begun_alone : Kernel → ℕ → Module → Kernel
-begun_alone k m r =
-    started (with_callback (in_new_slot k start_name (start_spec m r)) m None) (next_slot k)
+unfoldable pub begun_alone : Kernel → Memory → ℕ → Module → Change
+begun_alone k g m r =
+    started (with_callback (in_new_slot k start_name (start_spec m r)) m None) g (next_slot k)
 
 -- the start thread is made, then the callback thread; and in that order they are started
-unfoldable pub begun_both : Kernel → ℕ → Module → Kernel
-begun_both k m r =
+unfoldable pub begun_both : Kernel → Memory → ℕ → Module → Change
+begun_both k g m r =
     let one = in_new_slot k start_name (start_spec m r) in
     let both = in_new_slot one callback_name (callback_spec m r) in
-    started (started (with_callback both m (Some (next_slot one))) (next_slot k)) (next_slot one)
+    followed (started (with_callback both m (Some (next_slot one))) g (next_slot k)) (λ k g. started k g (next_slot one))
 
-abbrev pub begun : Kernel → ℕ → Module → Kernel
-begun k m r = if has_callback r.preamble then begun_both k m r else begun_alone k m r
+abbrev pub begun : Kernel → Memory → ℕ → Module → Change
+begun k g m r = if has_callback r.preamble then begun_both k g m r else begun_alone k g m r
 
 -- what a start leaves, and what it answers
 pub record StartOutcome : Type 0 where
   pub modules : List Module
-  pub kernel : Kernel
-  pub memory : Memory
+  pub change : Change
   pub answer : ℕ
 
 unfoldable pub start_row : List Module → Kernel → Memory → ℕ → StartOutcome
@@ -97,8 +97,7 @@ start_row rows k g m =
     if can_start k (module_at rows m)
     then record {
       modules = with_state rows m Started;
-      kernel = begun k m (module_at rows m);
-      memory = zeroed g (module_at rows m);
+      change = begun k (zeroed g (module_at rows m)) m (module_at rows m);
       answer = success;
     }
-    else record { modules = rows; kernel = k; memory = g; answer = start_error }
+    else record { modules = rows; change = quiet k g; answer = start_error }

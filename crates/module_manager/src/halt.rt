@@ -1,39 +1,38 @@
 //! The halt of a module: its threads end, then its slots, then its grants.
 //!
-//! Each of these goes by number over all slots. Memory isn't touched.
+//! Each of these goes by number over all slots. Between the first two its mutexes will be handed over;
+//! there are none yet.
 ghost use Rattle.std.specs.Prelude.{◌≡◌};
-ghost use Rattle.kernel_state.specs.Kernel.{is_thread};
-ghost use Rattle.kernel_state.specs.Sound.{IsSound};
-ghost use Rattle.module_manager.specs.Halt.{all_cleared, all_ended, all_ungranted, clearing, ending, halted};
+ghost use Rattle.kernel_state.specs.Serves.{Serves};
+ghost use Rattle.module_manager.specs.Halt.{clearing, ending, halted, removed_by_kind, slots_cleared, threads_ended, ties_ended, ungranting};
 
-use kernel_state::Kernel;
-use kernel_state::laws::a_kernel_stays_sound;
-use object_grants::{SLOTS, SlotState};
+use kernel_state::laws::{a_change_of_state_keeps_serving, a_kernel_stays_sound};
+use kernel_state::{Kernel, end_thread};
+use object_grants::SLOTS;
 use region_guard::Guard;
-use thread_calls::end_thread;
-use thread_calls::laws::a_change_of_state_keeps_sound;
-use tx_types::{Kind, ModNo, ObjNo, State, ThreadNo};
+use tx_types::{ModNo, ObjNo, State, ThreadNo};
 
 /// Ends all that a module has in the kernel: its threads, its object slots, and what it was granted.
 pub(crate) fn halt(k: &mut Kernel, g: &mut Guard, m: ModNo)
-    requires { IsSound k.old }
-    ensures after { k.new ≡ halted k.old m }
-    ensures memory { g.new ≡ g.old }
-    ensures sound { IsSound k.new }
+    requires { Serves k.old g.old }
+    ensures kernel { k.new ≡ (halted k.old g.old m).kernel }
+    ensures memory { g.new ≡ (halted k.old g.old m).memory }
+    ensures same { g.new ≡ g.old }
+    ensures serves { Serves k.new g.new }
 {
     a_kernel_stays_sound();
-    a_change_of_state_keeps_sound();
+    a_change_of_state_keeps_serving();
     end_threads(k, g, m);
-    clear_slots(k, m);
-    end_grants(k, m);
+    clear_slots(k, g, m);
+    end_ties(k, g, m);
 }
 
 /// Ends each thread of a module, by number.
-#[tactic(auto, using(crate::proofs::Folds::each_below_more, crate::proofs::Folds::each_below_none))]
+#[tactic(auto, using(crate::proofs::Folds::changed_below_more, crate::proofs::Folds::changed_below_none))]
 fn end_threads(k: &mut Kernel, g: &mut Guard, m: ModNo)
-    requires { IsSound k.old }
-    ensures after { k.new ≡ all_ended k.old m }
-    ensures memory { g.new ≡ g.old }
+    requires { Serves k.old g.old }
+    ensures kernel { k.new ≡ (threads_ended k.old g.old m).kernel }
+    ensures memory { g.new ≡ (threads_ended k.old g.old m).memory }
 {
     for t in 0..SLOTS {
         end_one(k, g, m, ObjNo::new(t));
@@ -42,52 +41,64 @@ fn end_threads(k: &mut Kernel, g: &mut Guard, m: ModNo)
 
 /// Ends a thread, where it is the module's.
 fn end_one(k: &mut Kernel, g: &mut Guard, m: ModNo, t: ThreadNo)
-    requires { IsSound k.old }
-    ensures after { k.new ≡ ending m k.old t }
-    ensures memory { g.new ≡ g.old }
-    ensures sound { IsSound k.new }
+    requires { Serves k.old g.old }
+    ensures kernel { k.new ≡ (ending m k.old g.old t).kernel }
+    ensures memory { g.new ≡ (ending m k.old g.old t).memory }
+    ensures serves { Serves k.new g.new }
 {
-    if is_thread(k, t) && k.module_of(t) == m {
+    if k.is_thread(t) && k.module_of(t) == m {
         end_thread(k, g, t, State::Terminated);
     }
 }
 
 /// Frees each slot of a module, by number.
-#[tactic(auto, using(crate::proofs::Folds::each_below_more, crate::proofs::Folds::each_below_none))]
-fn clear_slots(k: &mut Kernel, m: ModNo)
-    ensures { k.new ≡ all_cleared k.old m }
+#[tactic(auto, using(crate::proofs::Folds::changed_below_more, crate::proofs::Folds::changed_below_none))]
+fn clear_slots(k: &mut Kernel, g: &mut Guard, m: ModNo)
+    ensures kernel { k.new ≡ (slots_cleared k.old g.old m).kernel }
+    ensures memory { g.new ≡ (slots_cleared k.old g.old m).memory }
 {
     for o in 0..SLOTS {
-        clear_one(k, m, ObjNo::new(o));
+        clear_one(k, g, m, ObjNo::new(o));
     }
 }
 
-/// Frees a slot, where it is the module's; a thread in it is removed first.
-fn clear_one(k: &mut Kernel, m: ModNo, o: ObjNo)
-    ensures { k.new ≡ clearing m k.old o }
+/// Frees a slot, where it is the module's; an object in it is removed first.
+fn clear_one(k: &mut Kernel, g: &mut Guard, m: ModNo, o: ObjNo)
+    ensures kernel { k.new ≡ (clearing m k.old g.old o).kernel }
+    ensures memory { g.new ≡ (clearing m k.old g.old o).memory }
 {
+    let _ = &g;
     if k.objects.may_delete(m, o) {
-        if is_thread(k, o) {
-            k.remove(o);
-        }
+        remove_by_kind(k, o);
         k.objects.free(o);
     }
 }
 
-/// Ends what a module was granted, by number.
-#[tactic(auto, using(crate::proofs::Folds::each_below_more, crate::proofs::Folds::each_below_none))]
-fn end_grants(k: &mut Kernel, m: ModNo)
-    ensures { k.new ≡ all_ungranted k.old m }
+/// Removes an object by its kind: of all kinds, threads alone have more to end than their slot.
+fn remove_by_kind(k: &mut Kernel, o: ObjNo)
+    ensures { k.new ≡ removed_by_kind k.old o }
 {
-    for o in 0..SLOTS {
-        k.objects.revoke(m, ObjNo::new(o));
+    if k.is_thread(o) {
+        k.remove_thread(o);
     }
 }
 
-/// Whether a slot has a thread.
-fn is_thread(k: &Kernel, t: ThreadNo) -> bool
-    ensures { result ≡ is_thread k.now t }
+/// Ends what a module was granted, by number.
+#[tactic(auto, using(crate::proofs::Folds::changed_below_more, crate::proofs::Folds::changed_below_none))]
+fn end_ties(k: &mut Kernel, g: &mut Guard, m: ModNo)
+    ensures kernel { k.new ≡ (ties_ended k.old g.old m).kernel }
+    ensures memory { g.new ≡ (ties_ended k.old g.old m).memory }
 {
-    let slot = k.objects.slot(t);
-    slot.is_in(SlotState::Live) && slot.is_kind(Kind::Thread)
+    for o in 0..SLOTS {
+        end_grant(k, g, m, ObjNo::new(o));
+    }
+}
+
+/// Ends what a module was granted of an object.
+fn end_grant(k: &mut Kernel, g: &mut Guard, m: ModNo, o: ObjNo)
+    ensures kernel { k.new ≡ (ungranting m k.old g.old o).kernel }
+    ensures memory { g.new ≡ (ungranting m k.old g.old o).memory }
+{
+    let _ = &g;
+    k.objects.revoke(m, o);
 }

@@ -8,7 +8,7 @@ ghost use Rattle.module_preamble.specs.Words.{has_callback};
 ghost use Rattle.module_loader.specs.Want.{want_of};
 ghost use Rattle.region_guard.specs.Memory.{may};
 ghost use Rattle.kernel_state.specs.Kernel.{is_thread, module_of};
-ghost use Rattle.kernel_state.specs.Sound.{IsSound};
+ghost use Rattle.kernel_state.specs.Serves.{Serves};
 ghost use Rattle.module_manager.specs.Halt.{halted};
 ghost use Rattle.module_manager.specs.Modules.{IsPlaced, fault_in, fault_parts, loaded, module_at, module_state_number, with_state};
 ghost use Rattle.module_manager.specs.Start.{start_row};
@@ -101,7 +101,7 @@ impl Manager {
     /// usable; then nothing changes.
     #[tactic(auto, unfolding(crate::specs::Start::start_row))]
     pub fn start(&mut self, k: &mut Kernel, g: &mut Guard, m: ModNo) -> Code
-        requires sound { IsSound k.old }
+        requires serves { Serves k.old g.old }
         requires row { m < length self.old }
         requires start_prio { (module_at self.old m).preamble.start_prio < k.old.ready.levels }
         requires callback_prio { has_callback (module_at self.old m).preamble ≡ true
@@ -110,31 +110,33 @@ impl Manager {
         requires own_data { may g.old m Access.Store (module_at self.old m).placed.data_base
             (want_of (module_at self.old m).preamble).data_bytes ≡ true }
         ensures modules { self.new ≡ (start_row self.old k.old g.old m).modules }
-        ensures kernel { k.new ≡ (start_row self.old k.old g.old m).kernel }
-        ensures memory { g.new ≡ (start_row self.old k.old g.old m).memory }
+        ensures kernel { k.new ≡ (start_row self.old k.old g.old m).change.kernel }
+        ensures memory { g.new ≡ (start_row self.old k.old g.old m).change.memory }
         ensures answer { result ≡ (start_row self.old k.old g.old m).answer }
-        ensures sound { IsSound k.new }
+        ensures levels { k.new.ready.levels ≡ k.old.ready.levels }
+        ensures serves { Serves k.new g.new }
     {
         let row = self.row(m);
         if !can_start(k, row) {
             return Code::START_ERROR;
         }
         zero_data(g, m, row);
-        begin(k, m, row);
+        begin(k, g, m, row);
         self.set_state(m, ModuleState::Started);
         Code::SUCCESS
     }
 
     /// Halts the module of a thread that couldn't execute the instruction at pc, and keeps the fault.
     pub fn fault(&mut self, k: &mut Kernel, g: &mut Guard, t: ThreadNo, c: Cause, pc: u32)
-        requires sound { IsSound k.old }
+        requires serves { Serves k.old g.old }
         requires live { is_thread k.old t ≡ true }
         ensures modules { self.new
             ≡ with_state self.old (module_of k.old t)
             (ModuleState.Faulted (record { thread = t; cause = c; pc = pc })) }
-        ensures kernel { k.new ≡ halted k.old (module_of k.old t) }
-        ensures memory { g.new ≡ g.old }
-        ensures sound { IsSound k.new }
+        ensures kernel { k.new ≡ (halted k.old g.old (module_of k.old t)).kernel }
+        ensures memory { g.new ≡ (halted k.old g.old (module_of k.old t)).memory }
+        ensures same { g.new ≡ g.old }
+        ensures serves { Serves k.new g.new }
     {
         let m = k.module_of(t);
         halt(k, g, m);

@@ -6,22 +6,23 @@ ghost use Rattle.std.specs.Prelude.{◌≡◌, ◌≢◌, ◌<◌, ◌≤◌, �
 ghost use Rattle.module_preamble.specs.Words.{has_callback};
 ghost use Rattle.module_loader.specs.Want.{want_of};
 ghost use Rattle.region_guard.specs.Memory.{may};
+ghost use Rattle.tx_types.specs.Limits.{priority_limit};
 ghost use Rattle.tx_types.specs.declared.state.State.TheVariants.{Suspended};
 ghost use Rattle.kernel_state.specs.Kernel.{is_thread, module_of, thread};
+ghost use Rattle.kernel_state.specs.Serves.{Serves};
 ghost use Rattle.kernel_state.specs.Sound.{IsSound};
 ghost use Rattle.kernel_state.specs.Thread.{is_state};
 ghost use Rattle.module_manager.specs.Modules.{IsPlaced};
 ghost use Rattle.module_manager.specs.Start.{begun, begun_alone, begun_both, callback_spec, can_start, in_new_slot, next_slot, slots_needed, start_spec, usable_slots, with_callback, zeroed};
 
 use crate::modules::Module;
-use kernel_state::{Kernel, Spot, ThreadSpec};
+use kernel_state::{Kernel, Spot, ThreadSpec, start_thread};
 use module_loader::{opening, want_of};
 use module_preamble::Preamble;
 use object_grants::SLOTS;
 use region_guard::{Access, Guard};
 use rv_core::Hart;
 use thread_calls::laws::a_change_of_slots_keeps_sound;
-use thread_calls::start_thread;
 use tx_types::{Kind, ModNo, Name, ObjNo, Prio, ThreadNo, Thresh};
 
 /// Whether a module is loaded or stopped, and enough slots are usable.
@@ -66,61 +67,67 @@ pub(crate) fn zero_data(g: &mut Guard, m: ModNo, row: &Module)
 }
 
 /// Makes and starts a module's threads.
-pub(crate) fn begin(k: &mut Kernel, m: ModNo, row: &Module)
-    requires sound { IsSound k.old }
+pub(crate) fn begin(k: &mut Kernel, g: &mut Guard, m: ModNo, row: &Module)
+    requires serves { Serves k.old g.old }
     requires placed { IsPlaced row.now.preamble row.now.placed }
     requires start_prio { row.now.preamble.start_prio < k.old.ready.levels }
     requires callback_prio { has_callback row.now.preamble ≡ true
         → row.now.preamble.callback_prio < k.old.ready.levels }
     requires usable { slots_needed row.now.preamble ≤ usable_slots k.old }
-    ensures after { k.new ≡ begun k.old m row.now }
-    ensures sound { IsSound k.new }
+    ensures kernel { k.new ≡ (begun k.old g.old m row.now).kernel }
+    ensures memory { g.new ≡ (begun k.old g.old m row.now).memory }
+    ensures levels { k.new.ready.levels ≡ k.old.ready.levels }
+    ensures serves { Serves k.new g.new }
 {
     if row.preamble.has_callback() {
-        begin_both(k, m, row);
+        begin_both(k, g, m, row);
     } else {
-        begin_alone(k, m, row);
+        begin_alone(k, g, m, row);
     }
 }
 
 /// Makes and starts the start thread of a module without a callback thread.
 #[tactic(auto, unfolding(crate::specs::Start::begun_alone))]
-fn begin_alone(k: &mut Kernel, m: ModNo, row: &Module)
-    requires sound { IsSound k.old }
+fn begin_alone(k: &mut Kernel, g: &mut Guard, m: ModNo, row: &Module)
+    requires serves { Serves k.old g.old }
     requires placed { IsPlaced row.now.preamble row.now.placed }
     requires start_prio { row.now.preamble.start_prio < k.old.ready.levels }
     requires usable { 1 ≤ usable_slots k.old }
-    ensures after { k.new ≡ begun_alone k.old m row.now }
-    ensures sound { IsSound k.new }
+    ensures kernel { k.new ≡ (begun_alone k.old g.old m row.now).kernel }
+    ensures memory { g.new ≡ (begun_alone k.old g.old m row.now).memory }
+    ensures levels { k.new.ready.levels ≡ k.old.ready.levels }
+    ensures serves { Serves k.new g.new }
 {
     let t = make_thread(k, Name::from_bytes(b"start"), start_spec(m, row));
     set_callback(k, m, None);
-    start_thread(k, t);
+    start_thread(k, g, t);
 }
 
 /// Makes the start thread and the callback thread of a module, and then starts both.
 #[tactic(auto, unfolding(crate::specs::Start::begun_both))]
-fn begin_both(k: &mut Kernel, m: ModNo, row: &Module)
-    requires sound { IsSound k.old }
+fn begin_both(k: &mut Kernel, g: &mut Guard, m: ModNo, row: &Module)
+    requires serves { Serves k.old g.old }
     requires placed { IsPlaced row.now.preamble row.now.placed }
     requires callback { has_callback row.now.preamble ≡ true }
     requires start_prio { row.now.preamble.start_prio < k.old.ready.levels }
     requires callback_prio { row.now.preamble.callback_prio < k.old.ready.levels }
     requires usable { 2 ≤ usable_slots k.old }
-    ensures after { k.new ≡ begun_both k.old m row.now }
-    ensures sound { IsSound k.new }
+    ensures kernel { k.new ≡ (begun_both k.old g.old m row.now).kernel }
+    ensures memory { g.new ≡ (begun_both k.old g.old m row.now).memory }
+    ensures levels { k.new.ready.levels ≡ k.old.ready.levels }
+    ensures serves { Serves k.new g.new }
 {
     let t = make_thread(k, Name::from_bytes(b"start"), start_spec(m, row));
     let u = make_thread(k, Name::from_bytes(b"callback"), callback_spec(m, row));
     set_callback(k, m, Some(u));
-    start_thread(k, t);
-    start_thread(k, u);
+    start_thread(k, g, t);
+    start_thread(k, g, u);
 }
 
 /// What the start thread of a module is made of.
 fn start_spec(m: ModNo, row: &Module) -> ThreadSpec
     requires placed { IsPlaced row.now.preamble row.now.placed }
-    requires level { row.now.preamble.start_prio < 32 }
+    requires level { row.now.preamble.start_prio < priority_limit }
     ensures { result ≡ start_spec m row.now }
 {
     let p = &row.preamble;
@@ -131,7 +138,7 @@ fn start_spec(m: ModNo, row: &Module) -> ThreadSpec
 fn callback_spec(m: ModNo, row: &Module) -> ThreadSpec
     requires placed { IsPlaced row.now.preamble row.now.placed }
     requires callback { has_callback row.now.preamble ≡ true }
-    requires level { row.now.preamble.callback_prio < 32 }
+    requires level { row.now.preamble.callback_prio < priority_limit }
     ensures { result ≡ callback_spec m row.now }
 {
     let p = &row.preamble;
@@ -140,7 +147,7 @@ fn callback_spec(m: ModNo, row: &Module) -> ThreadSpec
 
 /// A thread whose threshold is its priority, and that has no time slice.
 fn spec(m: ModNo, hart: Hart, priority: u32) -> ThreadSpec
-    requires { priority < 32 }
+    requires { priority < priority_limit }
     ensures { result ≡ record { «module» = m; hart = hart; priority = priority; threshold = priority; slice = 0 } }
 {
     ThreadSpec {
@@ -185,6 +192,7 @@ fn set_callback(k: &mut Kernel, m: ModNo, callback: Option<ThreadNo>)
     requires own { IfSome callback
         (λ t. (is_thread k.old t ≡ true) × (module_of k.old t ≡ m)) }
     ensures after { k.new ≡ with_callback k.old m callback }
+    ensures levels { k.new.ready.levels ≡ k.old.ready.levels }
     ensures sound { IsSound k.new }
 {
     let spot = k.spot(m);

@@ -3,12 +3,15 @@
 //! A board's kernel is sound, so a test may make any call at any time. What a call asks for that a board
 //! can't give is left out, and the step that makes it fails.
 ghost use Rattle.std.specs.Prelude.{◌≡◌, IfOk};
+ghost use Rattle.kernel_state.specs.Serves.{Serves};
 ghost use Rattle.kernel_state.specs.Sound.{IsSound};
 
 use call_dispatch::dispatch;
 use flat_ram::Ram;
-use kernel_state::laws::{a_kernel_stays_sound, who_runs_is_a_thread};
-use kernel_state::{Kernel, Spot, ThreadSpec};
+use kernel_state::laws::{
+    a_change_of_state_keeps_sound, a_kernel_stays_sound, who_runs_is_a_thread,
+};
+use kernel_state::{Kernel, Spot, ThreadSpec, start_thread};
 use module_loader::{Placed, want_of};
 use module_manager::Manager;
 use module_preamble::Preamble;
@@ -18,8 +21,7 @@ use rv_core::{Cause, Hart};
 use std::alloc::Global;
 use std::marker::Model;
 use std::test::Fail;
-use thread_calls::laws::{a_change_of_slots_keeps_sound, a_change_of_state_keeps_sound};
-use thread_calls::start_thread;
+use thread_calls::laws::a_change_of_slots_keeps_sound;
 use tx_types::{Kind, ModNo, Name, ObjNo, Prio, State, ThreadNo, Thresh};
 
 /// Modules, a kernel and its memory.
@@ -31,14 +33,14 @@ pub struct Board {
 }
 
 impl Model for Board {
-    ghost use Rattle.kernel_state.specs.Sound.{IsSound};
+    ghost use Rattle.kernel_state.specs.Serves.{Serves};
     ghost use Rattle.kernel_state.specs.declared.kernel.Kernel.{Kernel};
 
     ghost Value = { Kernel };
 
     ghost view = { λ b. b.k };
 
-    ghost invariant = { λ b. IsSound b.k };
+    ghost invariant = { λ b. Serves b.k b.g };
 }
 
 /// A region of both modules' memory: its base, its size, its rights, and who has them.
@@ -81,7 +83,7 @@ impl Board {
     }
 
     fn add_module(&mut self, m: ModNo, shell: u32, data_base: u32, priority: u16) {
-        add_module(&mut self.k, m, shell, data_base, priority);
+        add_module(&mut self.k, &mut self.g, m, shell, data_base, priority);
     }
 
     /// The running thread calls a service with a0, a1 and a2: what its a0 has then. None where nothing
@@ -157,9 +159,9 @@ fn add_region(g: &mut Guard, r: Region) -> bool {
     is_in_ram && g.add(r).is_ok()
 }
 
-fn add_module(k: &mut Kernel, m: ModNo, shell: u32, data_base: u32, priority: u16)
-    requires { IsSound k.old }
-    ensures { IsSound k.new }
+fn add_module(k: &mut Kernel, g: &mut Guard, m: ModNo, shell: u32, data_base: u32, priority: u16)
+    requires { Serves k.old g.old }
+    ensures { Serves k.new g.new }
 {
     a_change_of_slots_keeps_sound();
     if shell % 4 == 0 {
@@ -170,15 +172,15 @@ fn add_module(k: &mut Kernel, m: ModNo, shell: u32, data_base: u32, priority: u1
         };
         k.set_spot(m, spot);
         if let Some(r) = k.objects.allocate(m, Kind::Thread) {
-            add_thread(k, m, r.slot(), priority);
+            add_thread(k, g, m, r.slot(), priority);
         }
     }
 }
 
 /// An Empty slot of its module's own gets a thread, which is ready.
-fn add_thread(k: &mut Kernel, m: ModNo, o: ObjNo, priority: u16)
-    requires { IsSound k.old }
-    ensures { IsSound k.new }
+fn add_thread(k: &mut Kernel, g: &mut Guard, m: ModNo, o: ObjNo, priority: u16)
+    requires { Serves k.old g.old }
+    ensures { Serves k.new g.new }
 {
     let slot = k.objects.slot(o);
     let is_own = slot.owner.number() == m.number();
@@ -194,12 +196,12 @@ fn add_thread(k: &mut Kernel, m: ModNo, o: ObjNo, priority: u16)
         slice: 5,
     };
     k.place_thread(o, Name::empty(), spec);
-    start_thread(k, o);
+    start_thread(k, g, o);
 }
 
 fn call(k: &mut Kernel, g: &mut Guard, service: u32, a: [u32; 3]) -> Option<u32>
-    requires { IsSound k.old }
-    ensures { IsSound k.new }
+    requires { Serves k.old g.old }
+    ensures { Serves k.new g.new }
 {
     let t = k.running()?;
     ask(k, t, service, a);
@@ -229,10 +231,7 @@ fn sleep(k: &mut Kernel) -> bool
     a_change_of_state_keeps_sound();
     who_runs_is_a_thread();
     if let Some(t) = k.running() {
-        let thread = k.thread_mut(t);
-        thread.state = State::Sleep;
-        thread.held = false;
-        k.ready.unready(t);
+        k.make_unready(t, State::Sleep);
         true
     } else {
         false
@@ -264,8 +263,8 @@ fn store(g: &mut Guard, m: ModNo, a: u32, n: u32, word: u32) -> bool {
 
 /// Starts a module, where it has a row, its priorities are some and its data region is its own.
 fn start(modules: &mut Manager, k: &mut Kernel, g: &mut Guard, m: ModNo) -> Option<u32>
-    requires { IsSound k.old }
-    ensures { IsSound k.new }
+    requires { Serves k.old g.old }
+    ensures { Serves k.new g.new }
 {
     if m.number() >= modules.len() {
         return None;
@@ -289,11 +288,10 @@ fn fault(
     cause: Cause,
     pc: u32,
 ) -> bool
-    requires { IsSound k.old }
-    ensures { IsSound k.new }
+    requires { Serves k.old g.old }
+    ensures { Serves k.new g.new }
 {
-    let slot = k.objects.slot(t);
-    let is_thread = slot.is_in(SlotState::Live) && slot.is_kind(Kind::Thread);
+    let is_thread = k.is_thread(t);
     if is_thread {
         modules.fault(k, g, t, cause, pc);
     }

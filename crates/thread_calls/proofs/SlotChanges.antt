@@ -30,7 +30,7 @@ allocate_keeps_sound changes k m kind sound = by_place (position is_usable k.obj
       let found = position-Some is_usable k.objects o (free_slot 0) at in
       let free = (and_parts (is_in Free (slot k.objects o)) (nat_lt (slot k.objects o).generation last_generation) found.1).0 in
       let none = no_thread (slot k.objects o) 0 (eqb-true (slot_state_number (slot k.objects o).state) 0 free) refl in
-      changes k o (allocated m kind (slot k.objects o)) sound (omega (arith, found.0, sound.slots)) (refl, refl) (sym none) (λ live. absurd (false≢true (sym none ∙ live)))
+      changes k o (allocated m kind (slot k.objects o)) sound (omega (arith, found.0, sound.formed.slots)) (refl, refl) (sym none) (λ live. absurd (false≢true (sym none ∙ live)))
 
 pub deallocate_keeps_sound : OneSlotChanges → DeallocateKeepsSound
 deallocate_keeps_sound changes k m r sound =
@@ -54,8 +54,8 @@ still_clean s grants live clean = by_state s.state live clean where
 pub grant_keeps_sound : OneSlotChanges → GrantKeepsSound
 grant_keeps_sound changes k m o sound live =
     let s = slot k.objects o in
-    let below : o < 256 = ⊎_elim (λ below. below) (λ past. absurd (false≢true (sym (ap (is_in Live) (get_or_past k.objects o (free_slot 0) (omega (arith, sound.slots)))) ∙ live))) (cases_lt o 256) in
-    changes k o (record s { grants = bit_or s.grants (2 ^ m) }) sound below (still_clean s (bit_or s.grants (2 ^ m)) live (sound.clean o below)) refl (λ is_one. refl)
+    let below : o < 256 = ⊎_elim (λ below. below) (λ past. absurd (false≢true (sym (ap (is_in Live) (get_or_past k.objects o (free_slot 0) (omega (arith, sound.formed.slots)))) ∙ live))) (cases_lt o 256) in
+    changes k o (record s { grants = bit_or s.grants (2 ^ m) }) sound below (still_clean s (bit_or s.grants (2 ^ m)) live (sound.formed.clean o below)) refl (λ is_one. refl)
 
 -- an object that is found by its name is Live
 pub found_is_live : (slots : List Slot) (kind : Kind) (name : List ℕ) (o : ℕ) → position (has_name kind name) slots ≡ Some o → is_in Live (slot slots o) ≡ true

@@ -7,11 +7,12 @@ use Rattle.region_guard.specs.Memory.{Memory}
 use Rattle.region_guard.specs.declared.region.Access.TheVariants.{Fetch, Store}
 use Rattle.rv_core.specs.Hart.{HartState}
 use Rattle.kernel_state.specs.Kernel.{module_of, placed, spot}
+use Rattle.kernel_state.specs.Change.{Change, quiet}
 use Rattle.kernel_state.specs.Outcome.{refused}
 use Rattle.kernel_state.specs.Tests.{caller_refusal}
+use Rattle.kernel_state.specs.ThreadChanges.{started}
 use Rattle.kernel_state.specs.declared.kernel.Kernel.{Kernel}
 use Rattle.kernel_state.specs.declared.thread.ThreadSpec.{ThreadSpec}
-use Rattle.thread_calls.specs.Changes.{started}
 use Rattle.thread_calls.specs.declared.create.ThreadBlock.{ThreadBlock}
 
 -- the eight words at an address
@@ -55,6 +56,6 @@ spec_of k by b = record {
 }
 
 -- the thread is made in slot o, and started where `auto` says so
-unfoldable pub created : Kernel → ℕ → ℕ → List ℕ → ThreadBlock → Kernel
-created k by o name b =
-    let now = placed k o name (spec_of k by b) in if b.auto == 1 then started now o else now
+unfoldable pub created : Kernel → Memory → ℕ → ℕ → List ℕ → ThreadBlock → Change
+created k g by o name b =
+    let now = placed k o name (spec_of k by b) in if b.auto == 1 then started now g o else quiet now g

@@ -1,46 +1,14 @@
 -- Each change that a service makes keeps a kernel sound.
-use Rattle.std.specs.Prelude.{◌≡◌, ◌⊎◌, ℕ, ◌<◌, ◌≤◌, true, false, IsSome}
+use Rattle.std.specs.Prelude.{◌≡◌, ℕ, ◌<◌, ◌≤◌, true, IsSome}
 use Rattle.tx_types.specs.declared.kind.Kind.{Kind}
-use Rattle.tx_types.specs.declared.state.State.{State}
-use Rattle.tx_types.specs.declared.state.State.TheVariants.{Completed, Terminated, Suspended}
 use Rattle.object_grants.specs.Slot.{is_in}
 use Rattle.object_grants.specs.Table.{slot, after_allocate, after_deallocate, after_grant}
 use Rattle.object_grants.specs.declared.slot.SlotState.TheVariants.{Live}
-use Rattle.ready_maps.specs.Moves.{unreadied, yielded}
-use Rattle.ready_maps.specs.Sched.{is_ready}
+use Rattle.ready_maps.specs.Moves.{yielded}
 use Rattle.kernel_state.specs.Kernel.{thread, is_thread}
-use Rattle.kernel_state.specs.Laws.{with_both}
 use Rattle.kernel_state.specs.Sound.{IsSound}
-use Rattle.kernel_state.specs.Thread.{is_over, is_state, is_waiting}
 use Rattle.kernel_state.specs.declared.kernel.Kernel.{Kernel}
-use Rattle.thread_calls.specs.Changes.{started, suspended, with_held, ended, reset, with_user_threshold, with_user_priority, with_slice}
-
-abbrev pub StartKeepsSound : Type 0
-StartKeepsSound =
-    (k : Kernel) (t : ℕ) → IsSound k → is_thread k t ≡ true → is_state (thread k t).state Suspended ≡ true → IsSound (started k t)
-
-abbrev pub SuspendKeepsSound : Type 0
-SuspendKeepsSound = (k : Kernel) (t : ℕ) → IsSound k → is_thread k t ≡ true → IsSound (suspended k t)
-
-abbrev pub EndKeepsSound : Type 0
-EndKeepsSound =
-    (k : Kernel) (t : ℕ) (state : State) → IsSound k → is_thread k t ≡ true → (state ≡ Completed) ⊎ (state ≡ Terminated)
-    → IsSound (ended k t state)
-
-abbrev pub ResetKeepsSound : Type 0
-ResetKeepsSound =
-    (k : Kernel) (t : ℕ) → IsSound k → is_thread k t ≡ true → is_over (thread k t).state ≡ true → IsSound (reset k t)
-
--- a suspension that was held is lifted
-abbrev pub LiftKeepsSound : Type 0
-LiftKeepsSound =
-    (k : Kernel) (t : ℕ) → IsSound k → is_thread k t ≡ true → IsSound (with_held k t false)
-
--- a ready thread begins to wait
-abbrev pub WaitKeepsSound : Type 0
-WaitKeepsSound =
-    (k : Kernel) (t : ℕ) (state : State) → IsSound k → is_thread k t ≡ true → is_ready k.ready t ≡ true → is_waiting state ≡ true
-    → IsSound (with_both k t (record (thread k t) { state = state; held = false }) (unreadied k.ready t))
+use Rattle.thread_calls.specs.Numbers.{with_user_threshold, with_user_priority, with_slice}
 
 abbrev pub ThresholdKeepsSound : Type 0
 ThresholdKeepsSound =

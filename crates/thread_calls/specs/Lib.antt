@@ -1,5 +1,5 @@
-pub mod Changes
 pub mod Create
 pub mod Laws
+pub mod Numbers
 pub mod ObjectRows
 pub mod ThreadRows

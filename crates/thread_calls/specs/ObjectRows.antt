@@ -10,16 +10,17 @@ use Rattle.object_grants.specs.Table.{ref_of, named as names_slot, after_allocat
 use Rattle.region_guard.specs.Memory.{Memory}
 use Rattle.region_guard.specs.declared.region.Access.TheVariants.{Store}
 use Rattle.kernel_state.specs.Kernel.{module_of}
+use Rattle.kernel_state.specs.Change.{quiet}
 use Rattle.kernel_state.specs.Outcome.{Outcome, answered, done, unless, found, given}
+use Rattle.kernel_state.specs.Registers.{arg}
 use Rattle.kernel_state.specs.Tests.{caller_refusal}
 use Rattle.kernel_state.specs.declared.kernel.Kernel.{Kernel}
-use Rattle.thread_calls.specs.ThreadRows.{arg}
 
 -- the lowest usable slot is allocated, and its reference is written
 unfoldable pub allocation : Kernel → Memory → ℕ → Kind → ℕ → Outcome
 allocation k g by kind to =
     let now = record k { objects = after_allocate k.objects (module_of k by) kind } in
-    found k g no_memory (position is_usable k.objects) (λ o. done now (with_word g to (ref_of now.objects o)))
+    found k g no_memory (position is_usable k.objects) (λ o. done (quiet now (with_word g to (ref_of now.objects o))))
 
 unfoldable pub object_allocate_row : Kernel → Memory → ℕ → List ℕ → Outcome
 object_allocate_row k g by a =
@@ -30,12 +31,12 @@ unfoldable pub object_deallocate_row : Kernel → Memory → ℕ → List ℕ �
 object_deallocate_row k g by a =
     let m = module_of k by in
     if names_slot k.objects (arg a 0) (is_own_empty m)
-    then done (record k { objects = after_deallocate k.objects m (arg a 0) }) g else answered k g ptr_error
+    then done (quiet (record k { objects = after_deallocate k.objects m (arg a 0) }) g) else answered k g ptr_error
 
 -- the caller's module is granted an object, and its reference is written
 unfoldable pub granting : Kernel → Memory → ℕ → ℕ → ℕ → Outcome
 granting k g by o to =
-    done (record k { objects = after_grant k.objects (module_of k by) o }) (with_word g to (ref_of k.objects o))
+    done (quiet (record k { objects = after_grant k.objects (module_of k by) o }) (with_word g to (ref_of k.objects o)))
 
 unfoldable pub object_pointer_get_row : Kernel → Memory → ℕ → List ℕ → Outcome
 object_pointer_get_row k g by a =

@@ -1,5 +1,5 @@
 -- The thread services, a row each: the refusals from left to right, then the change (ThreadX User Guide, "Thread Services").
-use Rattle.std.specs.Prelude.{ℕ, ◌==◌, false, not, nat_le, nat_lt, List, slice_index, if◌then◌else◌}
+use Rattle.std.specs.Prelude.{ℕ, ◌==◌, false, not, nat_le, nat_lt, List, if◌then◌else◌}
 use Rattle.tx_types.specs.Code.{success, thread_error, priority_error, delete_error, resume_error, suspend_error, thresh_error, suspend_lifted, not_done}
 use Rattle.tx_types.specs.declared.kind.Kind.TheVariants.{Thread}
 use Rattle.tx_types.specs.declared.state.State.TheVariants.{Completed, Terminated, Suspended}
@@ -9,20 +9,19 @@ use Rattle.object_grants.specs.Table.{ref_of}
 use Rattle.ready_maps.specs.Moves.{yielded}
 use Rattle.region_guard.specs.Memory.{Memory}
 use Rattle.region_guard.specs.declared.region.Access.TheVariants.{Load, Store}
-use Rattle.kernel_state.specs.Kernel.{thread, module_of, removed}
+use Rattle.kernel_state.specs.Kernel.{thread, module_of, removed_thread}
+use Rattle.kernel_state.specs.Change.{quiet}
 use Rattle.kernel_state.specs.Outcome.{Outcome, answering, answered, done, unless, found, given, refused}
+use Rattle.kernel_state.specs.Registers.{arg}
 use Rattle.kernel_state.specs.Tests.{named, reserved, owner_refusal, caller_refusal}
 use Rattle.kernel_state.specs.Thread.{is_over, is_state}
+use Rattle.kernel_state.specs.ThreadChanges.{started, suspended, with_held, ended, reset}
 use Rattle.kernel_state.specs.declared.answer.Answer.TheVariants.{Value, Ended}
 use Rattle.kernel_state.specs.declared.answer.Answer.{Answer}
 use Rattle.kernel_state.specs.declared.answer.Answer.TheVariants.{Code}
 use Rattle.kernel_state.specs.declared.kernel.Kernel.{Kernel}
-use Rattle.thread_calls.specs.Changes.{started, suspended, with_held, ended, reset, with_user_threshold, with_user_priority, with_slice, thread_info}
 use Rattle.thread_calls.specs.Create.{block_at, block_refusal, created}
-
--- argument number i
-abbrev pub arg : List ℕ → ℕ → ℕ
-arg a i = slice_index a i
+use Rattle.thread_calls.specs.Numbers.{with_user_threshold, with_user_priority, with_slice, thread_info}
 
 -- the caller's own thread, or another one, ends; who ends itself gets no answer
 abbrev pub end_answer : ℕ → ℕ → Answer
@@ -31,7 +30,7 @@ end_answer by t = if t == by then Ended else Code success
 -- a thread is made of the block at an address
 unfoldable pub creation : Kernel → Memory → ℕ → ℕ → List ℕ → ℕ → Outcome
 creation k g by o name x =
-    unless k g (block_refusal k g by (block_at g x)) (done (created k by o name (block_at g x)) g)
+    unless k g (block_refusal k g by (block_at g x)) (done (created k g by o name (block_at g x)))
 
 unfoldable pub thread_create_row : Kernel → Memory → ℕ → List ℕ → Outcome
 thread_create_row k g by a =
@@ -43,20 +42,20 @@ unfoldable pub thread_delete_row : Kernel → Memory → ℕ → List ℕ → Ou
 thread_delete_row k g by a =
     found k g thread_error (named k by (arg a 0) Thread) (λ t.
     unless k g (owner_refusal k by t)
-    (unless k g (refused (not (is_over (thread k t).state)) delete_error) (done (removed k t) g)))
+    (unless k g (refused (not (is_over (thread k t).state)) delete_error) (done (quiet (removed_thread k t) g))))
 
 unfoldable pub thread_terminate_row : Kernel → Memory → ℕ → List ℕ → Outcome
 thread_terminate_row k g by a =
-    found k g thread_error (named k by (arg a 0) Thread) (λ t. answering (ended k t Terminated) g (end_answer by t))
+    found k g thread_error (named k by (arg a 0) Thread) (λ t. answering (ended k g t Terminated) (end_answer by t))
 
 unfoldable pub thread_suspend_row : Kernel → Memory → ℕ → List ℕ → Outcome
 thread_suspend_row k g by a =
     found k g thread_error (named k by (arg a 0) Thread) (λ t.
-    unless k g (refused (is_over (thread k t).state) suspend_error) (done (suspended k t) g))
+    unless k g (refused (is_over (thread k t).state) suspend_error) (done (suspended k g t)))
 
 -- a suspended thread is started
 unfoldable pub starting : Kernel → Memory → ℕ → Outcome
-starting k g t = unless k g (refused (not (is_state (thread k t).state Suspended)) resume_error) (done (started k t) g)
+starting k g t = unless k g (refused (not (is_state (thread k t).state Suspended)) resume_error) (done (started k g t))
 
 -- a suspension that is held is lifted; else a suspended thread is started
 unfoldable pub resumption : Kernel → Memory → ℕ → Outcome
@@ -66,29 +65,30 @@ unfoldable pub thread_resume_row : Kernel → Memory → ℕ → List ℕ → Ou
 thread_resume_row k g by a = found k g thread_error (named k by (arg a 0) Thread) (resumption k g)
 
 unfoldable pub thread_relinquish_row : Kernel → Memory → ℕ → List ℕ → Outcome
-thread_relinquish_row k g by a = done (record k { ready = yielded k.ready }) g
+thread_relinquish_row k g by a = done (quiet (record k { ready = yielded k.ready }) g)
 
 unfoldable pub thread_identify_row : Kernel → Memory → ℕ → List ℕ → Outcome
-thread_identify_row k g by a = answering k g (Value (ref_of k.objects by))
+thread_identify_row k g by a = answering (quiet k g) (Value (ref_of k.objects by))
 
 unfoldable pub thread_info_get_row : Kernel → Memory → ℕ → List ℕ → Outcome
 thread_info_get_row k g by a =
     found k g thread_error (named k by (arg a 0) Thread) (λ t.
-    unless k g (caller_refusal k g by Store (arg a 1) 32) (done k (with_words g (arg a 1) (thread_info k t))))
+    unless k g (caller_refusal k g by Store (arg a 1) 32) (done (quiet k (with_words g (arg a 1) (thread_info k t)))))
 
 -- a number of a thread is changed, and the old one written
 unfoldable pub threshold_change : Kernel → Memory → ℕ → ℕ → ℕ → Outcome
 threshold_change k g t new old =
     unless k g (refused (nat_lt (thread k t).priority new) thresh_error)
-    (done (with_user_threshold k t new) (with_word g old (thread k t).threshold))
+    (done (quiet (with_user_threshold k t new) (with_word g old (thread k t).threshold)))
 
 unfoldable pub priority_change : Kernel → Memory → ℕ → ℕ → ℕ → Outcome
 priority_change k g t new old =
     unless k g (refused (nat_le k.ready.levels new) priority_error)
-    (done (with_user_priority k t new) (with_word g old (thread k t).priority))
+    (done (quiet (with_user_priority k t new) (with_word g old (thread k t).priority)))
 
 unfoldable pub slice_change : Kernel → Memory → ℕ → ℕ → ℕ → Outcome
-slice_change k g t new old = done (with_slice k t new) (with_word g old (thread k t).slice)
+slice_change k g t new old =
+    done (quiet (with_slice k t new) (with_word g old (thread k t).slice))
 
 unfoldable pub thread_preemption_change_row : Kernel → Memory → ℕ → List ℕ → Outcome
 thread_preemption_change_row k g by a =
@@ -108,7 +108,7 @@ thread_time_slice_change_row k g by a =
 unfoldable pub thread_reset_row : Kernel → Memory → ℕ → List ℕ → Outcome
 thread_reset_row k g by a =
     found k g thread_error (named k by (arg a 0) Thread) (λ t.
-    unless k g (refused (not (is_over (thread k t).state)) not_done) (done (reset k t) g))
+    unless k g (refused (not (is_over (thread k t).state)) not_done) (done (reset k g t)))
 
 unfoldable pub thread_complete_row : Kernel → Memory → ℕ → List ℕ → Outcome
-thread_complete_row k g by a = answering (ended k by Completed) g Ended
+thread_complete_row k g by a = answering (ended k g by Completed) Ended

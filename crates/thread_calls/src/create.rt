@@ -8,13 +8,13 @@ ghost use Rattle.object_grants.specs.Table.{slot};
 ghost use Rattle.object_grants.specs.declared.slot.SlotState.TheVariants.{Empty};
 ghost use Rattle.region_guard.specs.Memory.{may};
 ghost use Rattle.kernel_state.specs.Kernel.{module_of};
+ghost use Rattle.kernel_state.specs.Serves.{Serves};
 ghost use Rattle.kernel_state.specs.Sound.{IsSound};
 ghost use Rattle.thread_calls.specs.Create.{block_at, block_refusal, opening, spec_of, created};
 ghost use Rattle.thread_calls.specs.ThreadRows.{creation, thread_create_row};
 
-use crate::changes::start_thread;
 use call_arguments::{name_at, nth_word};
-use kernel_state::{Answer, Args, Kernel, ThreadSpec};
+use kernel_state::{Answer, Args, Kernel, ThreadSpec, start_thread};
 use region_guard::{Access, Guard};
 use rv_core::Hart;
 use tx_types::{Code, Kind, ModNo, Name, ObjNo, Prio, ThreadNo, Thresh};
@@ -49,12 +49,12 @@ pub struct ThreadBlock {
 /// own, then a refusal of the name, then of the block, then of its words.
 #[tactic(auto, unfolding(crate::specs::ThreadRows::thread_create_row))]
 pub fn thread_create(k: &mut Kernel, g: &mut Guard, by: ThreadNo, a: &Args) -> Answer
-    requires sound { IsSound k.old }
+    requires serves { Serves k.old g.old }
     requires runs { k.old.ready.run ≡ Some by }
-    ensures kernel { k.new ≡ (thread_create_row k.old g.old by a.now).kernel }
-    ensures memory { g.new ≡ (thread_create_row k.old g.old by a.now).memory }
+    ensures kernel { k.new ≡ (thread_create_row k.old g.old by a.now).change.kernel }
+    ensures memory { g.new ≡ (thread_create_row k.old g.old by a.now).change.memory }
     ensures answer { result ≡ (thread_create_row k.old g.old by a.now).answer }
-    ensures sound { IsSound k.new }
+    ensures serves { Serves k.new g.new }
 {
     let Some(o) = k.reserved(by, a[0], Kind::Thread) else {
         return Answer::Code(Code::THREAD_ERROR);
@@ -71,23 +71,23 @@ pub fn thread_create(k: &mut Kernel, g: &mut Guard, by: ThreadNo, a: &Args) -> A
 
 /// Creates a thread by the block at an address.
 #[tactic(auto, unfolding(crate::specs::ThreadRows::creation))]
-fn create(k: &mut Kernel, g: &Guard, by: ThreadNo, o: ObjNo, name: Name, x: u32) -> Answer
-    requires sound { IsSound k.old }
+fn create(k: &mut Kernel, g: &mut Guard, by: ThreadNo, o: ObjNo, name: Name, x: u32) -> Answer
+    requires serves { Serves k.old g.old }
     requires empty { is_in Empty (slot k.old.objects o) ≡ true }
     requires kind { is_kind Kind.Thread (slot k.old.objects o) ≡ true }
     requires own { (slot k.old.objects o).owner ≡ module_of k.old by }
     requires name { All (λ b. b ≢ 0) name }
-    requires allowed { may g.now (module_of k.old by) Access.Load x 32 ≡ true }
-    ensures kernel { k.new ≡ (creation k.old g.now by o name x).kernel }
-    ensures memory { g.now ≡ (creation k.old g.now by o name x).memory }
-    ensures answer { result ≡ (creation k.old g.now by o name x).answer }
-    ensures sound { IsSound k.new }
+    requires allowed { may g.old (module_of k.old by) Access.Load x 32 ≡ true }
+    ensures kernel { k.new ≡ (creation k.old g.old by o name x).change.kernel }
+    ensures memory { g.new ≡ (creation k.old g.old by o name x).change.memory }
+    ensures answer { result ≡ (creation k.old g.old by o name x).answer }
+    ensures serves { Serves k.new g.new }
 {
     let block = block_at(g, k.module_of(by), x);
     if let Some(refusal) = block_refusal(k, g, by, &block) {
         return Answer::Code(refusal);
     }
-    make(k, by, o, name, &block);
+    make(k, g, by, o, name, &block);
     Answer::Code(Code::SUCCESS)
 }
 
@@ -112,7 +112,6 @@ fn block_at(g: &Guard, m: ModNo, x: u32) -> ThreadBlock
 /// can't be stored to; there is no such priority; the threshold is above it; `auto` is above 1.
 #[tactic(auto, unfolding(crate::specs::Create::block_refusal))]
 fn block_refusal(k: &Kernel, g: &Guard, by: ThreadNo, b: &ThreadBlock) -> Option<Code>
-    requires { IsSound k.now }
     ensures value { result ≡ block_refusal k.now g.now by b.now }
     ensures at_most { IfNone result (b.now.threshold ≤ b.now.priority) }
     ensures level { IfNone result (b.now.priority < k.now.ready.levels) }
@@ -141,21 +140,22 @@ fn block_refusal(k: &Kernel, g: &Guard, by: ThreadNo, b: &ThreadBlock) -> Option
 
 /// Makes a thread of a block that isn't refused, and starts it where `auto` says so.
 #[tactic(auto, unfolding(crate::specs::Create::created))]
-fn make(k: &mut Kernel, by: ThreadNo, o: ObjNo, name: Name, b: &ThreadBlock)
-    requires sound { IsSound k.old }
+fn make(k: &mut Kernel, g: &mut Guard, by: ThreadNo, o: ObjNo, name: Name, b: &ThreadBlock)
+    requires serves { Serves k.old g.old }
     requires empty { is_in Empty (slot k.old.objects o) ≡ true }
     requires kind { is_kind Kind.Thread (slot k.old.objects o) ≡ true }
     requires own { (slot k.old.objects o).owner ≡ module_of k.old by }
     requires name { All (λ b. b ≢ 0) name }
     requires at_most { b.now.threshold ≤ b.now.priority }
     requires level { b.now.priority < k.old.ready.levels }
-    ensures after { k.new ≡ created k.old by o name b.now }
-    ensures sound { IsSound k.new }
+    ensures kernel { k.new ≡ (created k.old g.old by o name b.now).kernel }
+    ensures memory { g.new ≡ (created k.old g.old by o name b.now).memory }
+    ensures serves { Serves k.new g.new }
 {
     let spec = spec_of(k, by, b);
     k.place_thread(o, name, spec);
     if b.auto == 1 {
-        start_thread(k, o);
+        start_thread(k, g, o);
     }
 }
 

@@ -1,22 +1,11 @@
 //! Each change that a service makes keeps a kernel sound: each function's contract is a law.
 //!
 //! Their bodies do nothing; a function calls one where its proof needs the law.
-ghost use Rattle.thread_calls.specs.Laws.{StartKeepsSound, SuspendKeepsSound, EndKeepsSound, ResetKeepsSound, LiftKeepsSound, WaitKeepsSound, ThresholdKeepsSound, PriorityKeepsSound, SliceKeepsSound, YieldKeepsSound, AllocateKeepsSound, DeallocateKeepsSound, GrantKeepsSound};
+ghost use Rattle.thread_calls.specs.Laws.{ThresholdKeepsSound, PriorityKeepsSound, SliceKeepsSound, YieldKeepsSound, AllocateKeepsSound, DeallocateKeepsSound, GrantKeepsSound};
 
-use kernel_state::laws::{a_kernel_stays_sound, a_move_leaves_others_alone};
-
-/// Starting, suspending, ending and resetting a thread, lifting a suspension, and beginning to wait.
-pub fn a_change_of_state_keeps_sound()
-    ensures start { StartKeepsSound }
-    ensures suspend { SuspendKeepsSound }
-    ensures ending { EndKeepsSound }
-    ensures reset { ResetKeepsSound }
-    ensures lift { LiftKeepsSound }
-    ensures wait { WaitKeepsSound }
-{
-    a_kernel_stays_sound();
-    a_move_leaves_others_alone();
-}
+use kernel_state::laws::{
+    a_kernel_stays_sound, a_move_leaves_others_alone, an_effective_pair_fits, who_runs_is_a_thread,
+};
 
 /// New numbers of a thread, and a yield.
 pub fn a_change_of_numbers_keeps_sound()
@@ -27,6 +16,8 @@ pub fn a_change_of_numbers_keeps_sound()
 {
     a_kernel_stays_sound();
     a_move_leaves_others_alone();
+    an_effective_pair_fits();
+    who_runs_is_a_thread();
 }
 
 /// Allocating, freeing and granting a slot.

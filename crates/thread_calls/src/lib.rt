@@ -4,19 +4,19 @@
 //! sound kernel and leaves one, can't run out of memory, and returns.
 #![tactic(auto)]
 
-mod changes;
 mod create;
 pub mod laws;
 mod numbers;
 mod objects;
+mod resuming;
 mod threads;
 
-pub use changes::{end_thread, resume_object, start_thread};
 pub use create::thread_create;
 pub use numbers::{
     thread_info_get, thread_preemption_change, thread_priority_change, thread_time_slice_change,
 };
 pub use objects::{object_allocate, object_deallocate, object_pointer_get};
+pub use resuming::resume_object;
 pub use threads::{
     thread_complete, thread_delete, thread_identify, thread_relinquish, thread_reset,
     thread_resume, thread_suspend, thread_terminate,

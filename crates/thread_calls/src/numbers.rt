@@ -5,8 +5,9 @@
 ghost use Rattle.std.specs.Prelude.{◌≡◌, ◌≤◌, ◌<◌, Some, true};
 ghost use Rattle.region_guard.specs.Memory.{may};
 ghost use Rattle.kernel_state.specs.Kernel.{thread, is_thread, module_of};
+ghost use Rattle.kernel_state.specs.Serves.{Serves};
 ghost use Rattle.kernel_state.specs.Sound.{IsSound};
-ghost use Rattle.thread_calls.specs.Changes.{with_user_threshold, with_user_priority, with_slice, thread_info};
+ghost use Rattle.thread_calls.specs.Numbers.{with_user_threshold, with_user_priority, with_slice, thread_info};
 ghost use Rattle.thread_calls.specs.ThreadRows.{threshold_change, priority_change, slice_change, thread_info_get_row, thread_preemption_change_row, thread_priority_change_row, thread_time_slice_change_row};
 
 use crate::laws::a_change_of_numbers_keeps_sound;
@@ -18,12 +19,12 @@ use tx_types::{Code, Kind, Prio, ThreadNo, Thresh};
 /// `thread_info_get(a0, to)`: THREAD_ERROR, then a refusal of `to`; eight words are written there.
 #[tactic(auto, unfolding(crate::specs::ThreadRows::thread_info_get_row))]
 pub fn thread_info_get(k: &mut Kernel, g: &mut Guard, by: ThreadNo, a: &Args) -> Answer
-    requires sound { IsSound k.old }
+    requires serves { Serves k.old g.old }
     requires runs { k.old.ready.run ≡ Some by }
-    ensures kernel { k.new ≡ (thread_info_get_row k.old g.old by a.now).kernel }
-    ensures memory { g.new ≡ (thread_info_get_row k.old g.old by a.now).memory }
+    ensures kernel { k.new ≡ (thread_info_get_row k.old g.old by a.now).change.kernel }
+    ensures memory { g.new ≡ (thread_info_get_row k.old g.old by a.now).change.memory }
     ensures answer { result ≡ (thread_info_get_row k.old g.old by a.now).answer }
-    ensures sound { IsSound k.new }
+    ensures serves { Serves k.new g.new }
 {
     let Some(t) = k.named(by, a[0], Kind::Thread) else {
         return Answer::Code(Code::THREAD_ERROR);
@@ -40,12 +41,12 @@ pub fn thread_info_get(k: &mut Kernel, g: &mut Guard, by: ThreadNo, a: &Args) ->
 /// where the new threshold is above the user's priority. The old threshold is written.
 #[tactic(auto, unfolding(crate::specs::ThreadRows::thread_preemption_change_row))]
 pub fn thread_preemption_change(k: &mut Kernel, g: &mut Guard, by: ThreadNo, a: &Args) -> Answer
-    requires sound { IsSound k.old }
+    requires serves { Serves k.old g.old }
     requires runs { k.old.ready.run ≡ Some by }
-    ensures kernel { k.new ≡ (thread_preemption_change_row k.old g.old by a.now).kernel }
-    ensures memory { g.new ≡ (thread_preemption_change_row k.old g.old by a.now).memory }
+    ensures kernel { k.new ≡ (thread_preemption_change_row k.old g.old by a.now).change.kernel }
+    ensures memory { g.new ≡ (thread_preemption_change_row k.old g.old by a.now).change.memory }
     ensures answer { result ≡ (thread_preemption_change_row k.old g.old by a.now).answer }
-    ensures sound { IsSound k.new }
+    ensures serves { Serves k.new g.new }
 {
     let Some(t) = k.named(by, a[0], Kind::Thread) else {
         return Answer::Code(Code::THREAD_ERROR);
@@ -66,13 +67,13 @@ fn change_threshold(
     new: u32,
     to: u32,
 ) -> Answer
-    requires sound { IsSound k.old }
+    requires serves { Serves k.old g.old }
     requires live { is_thread k.old t ≡ true }
     requires allowed { may g.old (module_of k.old by) Access.Store to 4 ≡ true }
-    ensures kernel { k.new ≡ (threshold_change k.old g.old t new to).kernel }
-    ensures memory { g.new ≡ (threshold_change k.old g.old t new to).memory }
+    ensures kernel { k.new ≡ (threshold_change k.old g.old t new to).change.kernel }
+    ensures memory { g.new ≡ (threshold_change k.old g.old t new to).change.memory }
     ensures answer { result ≡ (threshold_change k.old g.old t new to).answer }
-    ensures sound { IsSound k.new }
+    ensures serves { Serves k.new g.new }
 {
     let m = k.module_of(by);
     let thread = k.thread(t);
@@ -89,12 +90,12 @@ fn change_threshold(
 /// where there is no such priority. The old priority is written; the threshold is the new priority.
 #[tactic(auto, unfolding(crate::specs::ThreadRows::thread_priority_change_row))]
 pub fn thread_priority_change(k: &mut Kernel, g: &mut Guard, by: ThreadNo, a: &Args) -> Answer
-    requires sound { IsSound k.old }
+    requires serves { Serves k.old g.old }
     requires runs { k.old.ready.run ≡ Some by }
-    ensures kernel { k.new ≡ (thread_priority_change_row k.old g.old by a.now).kernel }
-    ensures memory { g.new ≡ (thread_priority_change_row k.old g.old by a.now).memory }
+    ensures kernel { k.new ≡ (thread_priority_change_row k.old g.old by a.now).change.kernel }
+    ensures memory { g.new ≡ (thread_priority_change_row k.old g.old by a.now).change.memory }
     ensures answer { result ≡ (thread_priority_change_row k.old g.old by a.now).answer }
-    ensures sound { IsSound k.new }
+    ensures serves { Serves k.new g.new }
 {
     let Some(t) = k.named(by, a[0], Kind::Thread) else {
         return Answer::Code(Code::THREAD_ERROR);
@@ -115,13 +116,13 @@ fn change_priority(
     new: u32,
     to: u32,
 ) -> Answer
-    requires sound { IsSound k.old }
+    requires serves { Serves k.old g.old }
     requires live { is_thread k.old t ≡ true }
     requires allowed { may g.old (module_of k.old by) Access.Store to 4 ≡ true }
-    ensures kernel { k.new ≡ (priority_change k.old g.old t new to).kernel }
-    ensures memory { g.new ≡ (priority_change k.old g.old t new to).memory }
+    ensures kernel { k.new ≡ (priority_change k.old g.old t new to).change.kernel }
+    ensures memory { g.new ≡ (priority_change k.old g.old t new to).change.memory }
     ensures answer { result ≡ (priority_change k.old g.old t new to).answer }
-    ensures sound { IsSound k.new }
+    ensures serves { Serves k.new g.new }
 {
     if new >= u32::from(k.priorities()) {
         return Answer::Code(Code::PRIORITY_ERROR);
@@ -137,12 +138,12 @@ fn change_priority(
 /// slice is written.
 #[tactic(auto, unfolding(crate::specs::ThreadRows::thread_time_slice_change_row))]
 pub fn thread_time_slice_change(k: &mut Kernel, g: &mut Guard, by: ThreadNo, a: &Args) -> Answer
-    requires sound { IsSound k.old }
+    requires serves { Serves k.old g.old }
     requires runs { k.old.ready.run ≡ Some by }
-    ensures kernel { k.new ≡ (thread_time_slice_change_row k.old g.old by a.now).kernel }
-    ensures memory { g.new ≡ (thread_time_slice_change_row k.old g.old by a.now).memory }
+    ensures kernel { k.new ≡ (thread_time_slice_change_row k.old g.old by a.now).change.kernel }
+    ensures memory { g.new ≡ (thread_time_slice_change_row k.old g.old by a.now).change.memory }
     ensures answer { result ≡ (thread_time_slice_change_row k.old g.old by a.now).answer }
-    ensures sound { IsSound k.new }
+    ensures serves { Serves k.new g.new }
 {
     let Some(t) = k.named(by, a[0], Kind::Thread) else {
         return Answer::Code(Code::THREAD_ERROR);
@@ -163,13 +164,13 @@ fn change_slice(
     new: u32,
     to: u32,
 ) -> Answer
-    requires sound { IsSound k.old }
+    requires serves { Serves k.old g.old }
     requires live { is_thread k.old t ≡ true }
     requires allowed { may g.old (module_of k.old by) Access.Store to 4 ≡ true }
-    ensures kernel { k.new ≡ (slice_change k.old g.old t new to).kernel }
-    ensures memory { g.new ≡ (slice_change k.old g.old t new to).memory }
+    ensures kernel { k.new ≡ (slice_change k.old g.old t new to).change.kernel }
+    ensures memory { g.new ≡ (slice_change k.old g.old t new to).change.memory }
     ensures answer { result ≡ (slice_change k.old g.old t new to).answer }
-    ensures sound { IsSound k.new }
+    ensures serves { Serves k.new g.new }
 {
     let m = k.module_of(by);
     let old = k.thread(t).slice;
@@ -180,8 +181,6 @@ fn change_slice(
 
 /// What is read of a thread.
 fn thread_info(k: &Kernel, t: ThreadNo) -> [u32; 8]
-    requires sound { IsSound k.now }
-    requires live { is_thread k.now t ≡ true }
     ensures { result ≡ thread_info k.now t }
 {
     let thread = k.thread(t);
@@ -190,8 +189,8 @@ fn thread_info(k: &Kernel, t: ThreadNo) -> [u32; 8]
         u32::from(thread.held),
         u32::from(thread.priority.number()),
         u32::from(thread.threshold.number()),
-        u32::from(k.ready.priority(t).number()),
-        u32::from(k.ready.threshold(t).number()),
+        u32::from(k.effective_priority(t).number()),
+        u32::from(k.effective_threshold(t).number()),
         thread.slice,
         thread.left,
     ]

@@ -8,7 +8,7 @@ ghost use Rattle.object_grants.specs.Slot.{is_in};
 ghost use Rattle.object_grants.specs.Table.{slot};
 ghost use Rattle.object_grants.specs.declared.slot.SlotState.TheVariants.{Live};
 ghost use Rattle.kernel_state.specs.Kernel.{module_of};
-ghost use Rattle.kernel_state.specs.Sound.{IsSound};
+ghost use Rattle.kernel_state.specs.Serves.{Serves};
 ghost use Rattle.thread_calls.specs.ObjectRows.{allocation, granting, object_allocate_row, object_deallocate_row, object_pointer_get_row};
 
 use crate::laws::a_change_of_slots_keeps_sound;
@@ -21,12 +21,12 @@ use tx_types::{Code, Kind, ObjNo, ObjRef, ThreadNo};
 /// NO_MEMORY where no slot is usable. The reference is written.
 #[tactic(auto, unfolding(crate::specs::ObjectRows::object_allocate_row))]
 pub fn object_allocate(k: &mut Kernel, g: &mut Guard, by: ThreadNo, a: &Args) -> Answer
-    requires sound { IsSound k.old }
+    requires serves { Serves k.old g.old }
     requires runs { k.old.ready.run ≡ Some by }
-    ensures kernel { k.new ≡ (object_allocate_row k.old g.old by a.now).kernel }
-    ensures memory { g.new ≡ (object_allocate_row k.old g.old by a.now).memory }
+    ensures kernel { k.new ≡ (object_allocate_row k.old g.old by a.now).change.kernel }
+    ensures memory { g.new ≡ (object_allocate_row k.old g.old by a.now).change.memory }
     ensures answer { result ≡ (object_allocate_row k.old g.old by a.now).answer }
-    ensures sound { IsSound k.new }
+    ensures serves { Serves k.new g.new }
 {
     let Some(kind) = Kind::of(a[0]) else {
         return Answer::Code(Code::OPTION_ERROR);
@@ -40,12 +40,12 @@ pub fn object_allocate(k: &mut Kernel, g: &mut Guard, by: ThreadNo, a: &Args) ->
 /// Allocates the lowest usable slot, and writes its reference.
 #[tactic(auto, unfolding(crate::specs::ObjectRows::allocation))]
 fn allocate(k: &mut Kernel, g: &mut Guard, by: ThreadNo, kind: Kind, to: u32) -> Answer
-    requires sound { IsSound k.old }
+    requires serves { Serves k.old g.old }
     requires allowed { may g.old (module_of k.old by) Access.Store to 4 ≡ true }
-    ensures kernel { k.new ≡ (allocation k.old g.old by kind to).kernel }
-    ensures memory { g.new ≡ (allocation k.old g.old by kind to).memory }
+    ensures kernel { k.new ≡ (allocation k.old g.old by kind to).change.kernel }
+    ensures memory { g.new ≡ (allocation k.old g.old by kind to).change.memory }
     ensures answer { result ≡ (allocation k.old g.old by kind to).answer }
-    ensures sound { IsSound k.new }
+    ensures serves { Serves k.new g.new }
 {
     a_change_of_slots_keeps_sound();
     let m = k.module_of(by);
@@ -62,12 +62,12 @@ fn allocate(k: &mut Kernel, g: &mut Guard, by: ThreadNo, kind: Kind, to: u32) ->
 /// freed.
 #[tactic(auto, unfolding(crate::specs::ObjectRows::object_deallocate_row))]
 pub fn object_deallocate(k: &mut Kernel, g: &mut Guard, by: ThreadNo, a: &Args) -> Answer
-    requires sound { IsSound k.old }
+    requires serves { Serves k.old g.old }
     requires runs { k.old.ready.run ≡ Some by }
-    ensures kernel { k.new ≡ (object_deallocate_row k.old g.old by a.now).kernel }
-    ensures memory { g.new ≡ (object_deallocate_row k.old g.old by a.now).memory }
+    ensures kernel { k.new ≡ (object_deallocate_row k.old g.old by a.now).change.kernel }
+    ensures memory { g.new ≡ (object_deallocate_row k.old g.old by a.now).change.memory }
     ensures answer { result ≡ (object_deallocate_row k.old g.old by a.now).answer }
-    ensures sound { IsSound k.new }
+    ensures serves { Serves k.new g.new }
 {
     a_change_of_slots_keeps_sound();
     let m = k.module_of(by);
@@ -83,12 +83,12 @@ pub fn object_deallocate(k: &mut Kernel, g: &mut Guard, by: ThreadNo, a: &Args) 
 /// object is granted, and its reference is written.
 #[tactic(auto, unfolding(crate::specs::ObjectRows::object_pointer_get_row))]
 pub fn object_pointer_get(k: &mut Kernel, g: &mut Guard, by: ThreadNo, a: &Args) -> Answer
-    requires sound { IsSound k.old }
+    requires serves { Serves k.old g.old }
     requires runs { k.old.ready.run ≡ Some by }
-    ensures kernel { k.new ≡ (object_pointer_get_row k.old g.old by a.now).kernel }
-    ensures memory { g.new ≡ (object_pointer_get_row k.old g.old by a.now).memory }
+    ensures kernel { k.new ≡ (object_pointer_get_row k.old g.old by a.now).change.kernel }
+    ensures memory { g.new ≡ (object_pointer_get_row k.old g.old by a.now).change.memory }
     ensures answer { result ≡ (object_pointer_get_row k.old g.old by a.now).answer }
-    ensures sound { IsSound k.new }
+    ensures serves { Serves k.new g.new }
 {
     let Some(kind) = Kind::of(a[0]) else {
         return Answer::Code(Code::OPTION_ERROR);
@@ -109,13 +109,13 @@ pub fn object_pointer_get(k: &mut Kernel, g: &mut Guard, by: ThreadNo, a: &Args)
 /// Grants an object to the caller's module, and writes its reference.
 #[tactic(auto, unfolding(crate::specs::ObjectRows::granting))]
 fn grant(k: &mut Kernel, g: &mut Guard, by: ThreadNo, o: ObjNo, to: u32) -> Answer
-    requires sound { IsSound k.old }
+    requires serves { Serves k.old g.old }
     requires live { is_in Live (slot k.old.objects o) ≡ true }
     requires allowed { may g.old (module_of k.old by) Access.Store to 4 ≡ true }
-    ensures kernel { k.new ≡ (granting k.old g.old by o to).kernel }
-    ensures memory { g.new ≡ (granting k.old g.old by o to).memory }
+    ensures kernel { k.new ≡ (granting k.old g.old by o to).change.kernel }
+    ensures memory { g.new ≡ (granting k.old g.old by o to).change.memory }
     ensures answer { result ≡ (granting k.old g.old by o to).answer }
-    ensures sound { IsSound k.new }
+    ensures serves { Serves k.new g.new }
 {
     a_change_of_slots_keeps_sound();
     let m = k.module_of(by);

@@ -3,25 +3,25 @@
 //! A refused call changes nothing, and none of these services reads or writes a module's memory.
 //! Creating a thread and changing its numbers have files of their own.
 ghost use Rattle.std.specs.Prelude.{◌≡◌, Some, true};
-ghost use Rattle.kernel_state.specs.Sound.{IsSound};
+ghost use Rattle.kernel_state.specs.Serves.{Serves};
 ghost use Rattle.thread_calls.specs.ThreadRows.{thread_delete_row, thread_terminate_row, thread_suspend_row, thread_resume_row, thread_relinquish_row, thread_identify_row, thread_reset_row, thread_complete_row};
 
-use crate::changes::{end_thread, reset, resume_object, suspend};
 use crate::laws::a_change_of_numbers_keeps_sound;
+use crate::resuming::resume_object;
 use kernel_state::laws::{a_kernel_stays_sound, who_runs_is_a_thread};
-use kernel_state::{Answer, Args, Kernel, is_over};
+use kernel_state::{Answer, Args, Kernel, end_thread, is_over, reset_thread, suspend_thread};
 use region_guard::Guard;
 use tx_types::{Code, Kind, State, ThreadNo};
 
 /// `thread_suspend(a0)`: THREAD_ERROR, then SUSPEND_ERROR where the thread is over.
 #[tactic(auto, unfolding(crate::specs::ThreadRows::thread_suspend_row))]
 pub fn thread_suspend(k: &mut Kernel, g: &mut Guard, by: ThreadNo, a: &Args) -> Answer
-    requires sound { IsSound k.old }
+    requires serves { Serves k.old g.old }
     requires runs { k.old.ready.run ≡ Some by }
-    ensures kernel { k.new ≡ (thread_suspend_row k.old g.old by a.now).kernel }
-    ensures memory { g.new ≡ (thread_suspend_row k.old g.old by a.now).memory }
+    ensures kernel { k.new ≡ (thread_suspend_row k.old g.old by a.now).change.kernel }
+    ensures memory { g.new ≡ (thread_suspend_row k.old g.old by a.now).change.memory }
     ensures answer { result ≡ (thread_suspend_row k.old g.old by a.now).answer }
-    ensures sound { IsSound k.new }
+    ensures serves { Serves k.new g.new }
 {
     let Some(t) = k.named(by, a[0], Kind::Thread) else {
         return Answer::Code(Code::THREAD_ERROR);
@@ -29,19 +29,19 @@ pub fn thread_suspend(k: &mut Kernel, g: &mut Guard, by: ThreadNo, a: &Args) -> 
     if is_over(k.state(t)) {
         return Answer::Code(Code::SUSPEND_ERROR);
     }
-    suspend(k, t);
+    suspend_thread(k, g, t);
     Answer::Code(Code::SUCCESS)
 }
 
 /// `thread_resume(a0)`: THREAD_ERROR, then as `resume_object`.
 #[tactic(auto, unfolding(crate::specs::ThreadRows::thread_resume_row))]
 pub fn thread_resume(k: &mut Kernel, g: &mut Guard, by: ThreadNo, a: &Args) -> Answer
-    requires sound { IsSound k.old }
+    requires serves { Serves k.old g.old }
     requires runs { k.old.ready.run ≡ Some by }
-    ensures kernel { k.new ≡ (thread_resume_row k.old g.old by a.now).kernel }
-    ensures memory { g.new ≡ (thread_resume_row k.old g.old by a.now).memory }
+    ensures kernel { k.new ≡ (thread_resume_row k.old g.old by a.now).change.kernel }
+    ensures memory { g.new ≡ (thread_resume_row k.old g.old by a.now).change.memory }
     ensures answer { result ≡ (thread_resume_row k.old g.old by a.now).answer }
-    ensures sound { IsSound k.new }
+    ensures serves { Serves k.new g.new }
 {
     let Some(t) = k.named(by, a[0], Kind::Thread) else {
         return Answer::Code(Code::THREAD_ERROR);
@@ -53,12 +53,12 @@ pub fn thread_resume(k: &mut Kernel, g: &mut Guard, by: ThreadNo, a: &Args) -> A
 /// gets no answer.
 #[tactic(auto, unfolding(crate::specs::ThreadRows::thread_terminate_row))]
 pub fn thread_terminate(k: &mut Kernel, g: &mut Guard, by: ThreadNo, a: &Args) -> Answer
-    requires sound { IsSound k.old }
+    requires serves { Serves k.old g.old }
     requires runs { k.old.ready.run ≡ Some by }
-    ensures kernel { k.new ≡ (thread_terminate_row k.old g.old by a.now).kernel }
-    ensures memory { g.new ≡ (thread_terminate_row k.old g.old by a.now).memory }
+    ensures kernel { k.new ≡ (thread_terminate_row k.old g.old by a.now).change.kernel }
+    ensures memory { g.new ≡ (thread_terminate_row k.old g.old by a.now).change.memory }
     ensures answer { result ≡ (thread_terminate_row k.old g.old by a.now).answer }
-    ensures sound { IsSound k.new }
+    ensures serves { Serves k.new g.new }
 {
     let Some(t) = k.named(by, a[0], Kind::Thread) else {
         return Answer::Code(Code::THREAD_ERROR);
@@ -74,12 +74,12 @@ pub fn thread_terminate(k: &mut Kernel, g: &mut Guard, by: ThreadNo, a: &Args) -
 /// `thread_complete()`: the caller ends, and gets no answer.
 #[tactic(auto, unfolding(crate::specs::ThreadRows::thread_complete_row))]
 pub fn thread_complete(k: &mut Kernel, g: &mut Guard, by: ThreadNo, a: &Args) -> Answer
-    requires sound { IsSound k.old }
+    requires serves { Serves k.old g.old }
     requires runs { k.old.ready.run ≡ Some by }
-    ensures kernel { k.new ≡ (thread_complete_row k.old g.old by a.now).kernel }
-    ensures memory { g.new ≡ (thread_complete_row k.old g.old by a.now).memory }
+    ensures kernel { k.new ≡ (thread_complete_row k.old g.old by a.now).change.kernel }
+    ensures memory { g.new ≡ (thread_complete_row k.old g.old by a.now).change.memory }
     ensures answer { result ≡ (thread_complete_row k.old g.old by a.now).answer }
-    ensures sound { IsSound k.new }
+    ensures serves { Serves k.new g.new }
 {
     who_runs_is_a_thread();
     end_thread(k, g, by, State::Completed);
@@ -89,12 +89,12 @@ pub fn thread_complete(k: &mut Kernel, g: &mut Guard, by: ThreadNo, a: &Args) ->
 /// `thread_reset(a0)`: THREAD_ERROR, then NOT_DONE unless the thread is over.
 #[tactic(auto, unfolding(crate::specs::ThreadRows::thread_reset_row))]
 pub fn thread_reset(k: &mut Kernel, g: &mut Guard, by: ThreadNo, a: &Args) -> Answer
-    requires sound { IsSound k.old }
+    requires serves { Serves k.old g.old }
     requires runs { k.old.ready.run ≡ Some by }
-    ensures kernel { k.new ≡ (thread_reset_row k.old g.old by a.now).kernel }
-    ensures memory { g.new ≡ (thread_reset_row k.old g.old by a.now).memory }
+    ensures kernel { k.new ≡ (thread_reset_row k.old g.old by a.now).change.kernel }
+    ensures memory { g.new ≡ (thread_reset_row k.old g.old by a.now).change.memory }
     ensures answer { result ≡ (thread_reset_row k.old g.old by a.now).answer }
-    ensures sound { IsSound k.new }
+    ensures serves { Serves k.new g.new }
 {
     let Some(t) = k.named(by, a[0], Kind::Thread) else {
         return Answer::Code(Code::THREAD_ERROR);
@@ -102,7 +102,7 @@ pub fn thread_reset(k: &mut Kernel, g: &mut Guard, by: ThreadNo, a: &Args) -> An
     if !is_over(k.state(t)) {
         return Answer::Code(Code::NOT_DONE);
     }
-    reset(k, t);
+    reset_thread(k, g, t);
     Answer::Code(Code::SUCCESS)
 }
 
@@ -110,12 +110,12 @@ pub fn thread_reset(k: &mut Kernel, g: &mut Guard, by: ThreadNo, a: &Args) -> An
 /// DELETE_ERROR unless it is over.
 #[tactic(auto, unfolding(crate::specs::ThreadRows::thread_delete_row))]
 pub fn thread_delete(k: &mut Kernel, g: &mut Guard, by: ThreadNo, a: &Args) -> Answer
-    requires sound { IsSound k.old }
+    requires serves { Serves k.old g.old }
     requires runs { k.old.ready.run ≡ Some by }
-    ensures kernel { k.new ≡ (thread_delete_row k.old g.old by a.now).kernel }
-    ensures memory { g.new ≡ (thread_delete_row k.old g.old by a.now).memory }
+    ensures kernel { k.new ≡ (thread_delete_row k.old g.old by a.now).change.kernel }
+    ensures memory { g.new ≡ (thread_delete_row k.old g.old by a.now).change.memory }
     ensures answer { result ≡ (thread_delete_row k.old g.old by a.now).answer }
-    ensures sound { IsSound k.new }
+    ensures serves { Serves k.new g.new }
 {
     a_kernel_stays_sound();
     let Some(t) = k.named(by, a[0], Kind::Thread) else {
@@ -127,19 +127,19 @@ pub fn thread_delete(k: &mut Kernel, g: &mut Guard, by: ThreadNo, a: &Args) -> A
     if !is_over(k.state(t)) {
         return Answer::Code(Code::DELETE_ERROR);
     }
-    k.remove(t);
+    k.remove_thread(t);
     Answer::Code(Code::SUCCESS)
 }
 
 /// `thread_relinquish()`: the caller goes after the ready threads of its priority.
 #[tactic(auto, unfolding(crate::specs::ThreadRows::thread_relinquish_row))]
 pub fn thread_relinquish(k: &mut Kernel, g: &mut Guard, by: ThreadNo, a: &Args) -> Answer
-    requires sound { IsSound k.old }
+    requires serves { Serves k.old g.old }
     requires runs { k.old.ready.run ≡ Some by }
-    ensures kernel { k.new ≡ (thread_relinquish_row k.old g.old by a.now).kernel }
-    ensures memory { g.new ≡ (thread_relinquish_row k.old g.old by a.now).memory }
+    ensures kernel { k.new ≡ (thread_relinquish_row k.old g.old by a.now).change.kernel }
+    ensures memory { g.new ≡ (thread_relinquish_row k.old g.old by a.now).change.memory }
     ensures answer { result ≡ (thread_relinquish_row k.old g.old by a.now).answer }
-    ensures sound { IsSound k.new }
+    ensures serves { Serves k.new g.new }
 {
     a_change_of_numbers_keeps_sound();
     who_runs_is_a_thread();
@@ -150,12 +150,12 @@ pub fn thread_relinquish(k: &mut Kernel, g: &mut Guard, by: ThreadNo, a: &Args) 
 /// `thread_identify()`: the caller's reference.
 #[tactic(auto, unfolding(crate::specs::ThreadRows::thread_identify_row))]
 pub fn thread_identify(k: &mut Kernel, g: &mut Guard, by: ThreadNo, a: &Args) -> Answer
-    requires sound { IsSound k.old }
+    requires serves { Serves k.old g.old }
     requires runs { k.old.ready.run ≡ Some by }
-    ensures kernel { k.new ≡ (thread_identify_row k.old g.old by a.now).kernel }
-    ensures memory { g.new ≡ (thread_identify_row k.old g.old by a.now).memory }
+    ensures kernel { k.new ≡ (thread_identify_row k.old g.old by a.now).change.kernel }
+    ensures memory { g.new ≡ (thread_identify_row k.old g.old by a.now).change.memory }
     ensures answer { result ≡ (thread_identify_row k.old g.old by a.now).answer }
-    ensures sound { IsSound k.new }
+    ensures serves { Serves k.new g.new }
 {
     Answer::Value(k.objects.ref_of(by).word())
 }

@@ -1,4 +1,4 @@
-use Rattle.std.proofs.Common.{refl, sym, ◌∙◌}
+use Rattle.std.proofs.Common.{[], refl, sym, ◌∙◌}
 use Rattle.tx_types.specs.declared.state.State.TheVariants.{Sleep}
 use Rattle.service_tests.proofs.board.sleep.Goals as goal
 
@@ -9,5 +9,4 @@ returns-in-Some c =
     let who = c.who_runs_is_a_thread.ensures in
     let ready = who.running_is_ready k t c.requires (sym c.running.ensures.value ∙ c.in-Some.is) in
     let live = who.ready_is_thread k t c.requires ready in
-    rw (c.unready.ensures.after, c.thread_mut-thread.ensures.value)
-    (c.a_change_of_state_keeps_sound.ensures.wait k t Sleep c.requires live ready refl)
+    rw c.make_unready.ensures (c.a_change_of_state_keeps_sound.ensures.unready [] k t Sleep c.requires live ready refl)
