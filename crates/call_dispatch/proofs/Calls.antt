@@ -1,49 +1,65 @@
 -- A call writes its result alone; it changes no register of its caller but a0, and one that is refused nothing else.
-use Rattle.std.proofs.Common.{ℕ, ◌<◌, ◌≤◌, length, Option, ap, refl, sym, subst, ⊎_elim}
+use Rattle.std.proofs.Common.{◌≡◌, ℕ, ◌<◌, ◌≤◌, ◌==◌, List, [], length, Option, None, Some, ap, refl, sym, subst, ⊎_elim}
 use Rattle.std.specs.List.{slice_index_or}
 use Rattle.std.proofs.lemmas.Bool.{cases_lt}
 use Rattle.std.proofs.lemmas.List.{get_or-set_same, get_or-set_other, set_past}
 use Rattle.tx_types.specs.Code.{feature_not_enabled}
 use Rattle.rv_core.specs.Hart.{HartState, with_register}
-use Rattle.kernel_state.specs.Kernel.{thread}
-use Rattle.kernel_state.specs.Laws.{RunningIsReady, ReadyIsThread, ThreadIsRight}
-use Rattle.kernel_state.specs.Outcome.{Outcome, answering, found}
+use Rattle.region_guard.specs.Memory.{Memory}
+use Rattle.kernel_state.specs.Kernel.{module_of, thread}
+use Rattle.kernel_state.specs.Outcome.{Outcome, answering}
+use Rattle.kernel_state.specs.Range.{allowed}
+use Rattle.kernel_state.specs.Row.{AnsweredIsKept, IsKept, IsRow, Row, RunningCalls, called, row_of}
 use Rattle.kernel_state.specs.Registers.{arguments, number_asked, with_a0}
 use Rattle.kernel_state.specs.Thread.{blank_thread}
 use Rattle.kernel_state.specs.declared.answer.Answer.{Answer}
 use Rattle.kernel_state.specs.declared.answer.Answer.TheVariants.{Code, Value, Waits, Ended}
 use Rattle.kernel_state.specs.declared.kernel.Kernel.{Kernel}
 use Rattle.kernel_state.specs.declared.thread.Thread.{Thread}
+use Rattle.thread_calls.specs.Rows.{EachRowIsOne}
 use Rattle.call_dispatch.specs.Caller.{CallChangesA0Alone, ChangesA0Alone}
 use Rattle.call_dispatch.specs.Ecall.{dispatched, with_answer}
 use Rattle.call_dispatch.specs.Laws.{CallWritesItsResultAlone, RefusalChangesNothing, RefusedCallChangesA0Alone, NoRowChangesA0Alone}
-use Rattle.call_dispatch.specs.Rows.{call_row, served}
-use Rattle.call_dispatch.specs.declared.service.Service.{Service}
-use Rattle.call_dispatch.proofs.Callers.{running_calls}
-use Rattle.call_dispatch.proofs.EachRow.{call_is_row}
-use Rattle.call_dispatch.proofs.Writes.{AllowedIsWrittenAlone}
+use Rattle.call_dispatch.specs.Rows.{call_result, call_row, row_asked, row_writes, rows}
+use Rattle.call_dispatch.proofs.Numbers.{find_holds}
 
-pub call_writes_its_result_alone : AllowedIsWrittenAlone → CallWritesItsResultAlone
-call_writes_its_result_alone writes k g by n a sound = (call_is_row n k g by a).alone writes sound
+-- the laws of the layers below
+pub record Lower : Type 0 where
+  pub answered : AnsweredIsKept
+  pub calls : RunningCalls
+  pub each : EachRowIsOne
 
-pub refusal_changes_nothing : RefusalChangesNothing
-refusal_changes_nothing k g by n a c same no_success not_lifted = (call_is_row n k g by a).refusal c same no_success not_lifted
+-- what each row keeps, each call does
+called_is_kept : Lower → (o : Option Row) → ((r : Row) → o ≡ Some r → IsRow r) → (k : Kernel) (g : Memory) (by : ℕ) (a : List ℕ)
+    → IsKept (allowed g (module_of k by) (row_writes o k by a)) k g by (called o k g by a)
+called_is_kept lower None is_row k g by a = lower.answered [] k g by feature_not_enabled
+called_is_kept lower (Some r) is_row k g by a = is_row r refl k g by a
+
+call_is_kept : Lower → (n : ℕ) (k : Kernel) (g : Memory) (by : ℕ) (a : List ℕ) → IsKept (call_result n k g by a) k g by (call_row n k g by a)
+unfolding call_row row_asked
+call_is_kept lower n k g by a = called_is_kept lower (row_of n rows) (λ r found. find_holds IsRow (λ x. x.number == n) rows r lower.each found) k g by a
+
+pub call_writes_its_result_alone : Lower → CallWritesItsResultAlone
+call_writes_its_result_alone lower k g by n a sound = (call_is_kept lower n k g by a).alone sound
+
+pub refusal_changes_nothing : Lower → RefusalChangesNothing
+refusal_changes_nothing lower k g by n a c same no_success not_lifted = (call_is_kept lower n k g by a).refusal c same no_success not_lifted
 
 -- an outcome with its answer in a thread's a0
 abbrev answer_put : ℕ → Outcome → Outcome
 answer_put t o = answering (record o.change { kernel = with_answer o.change.kernel t o.answer }) o.answer
 
-pub refused_call_changes_a0_alone : RefusedCallChangesA0Alone
+pub refused_call_changes_a0_alone : Lower → RefusedCallChangesA0Alone
 unfolding dispatched with_answer
-refused_call_changes_a0_alone k g t c same no_success not_lifted =
+refused_call_changes_a0_alone lower k g t c same no_success not_lifted =
     let h = (thread k t).hart in
-    ap (answer_put t) (refusal_changes_nothing k g t (number_asked h) (arguments h) c same no_success not_lifted)
+    ap (answer_put t) (refusal_changes_nothing lower k g t (number_asked h) (arguments h) c same no_success not_lifted)
 
 pub no_row_changes_a0_alone : NoRowChangesA0Alone
 unfolding dispatched with_answer call_row
 no_row_changes_a0_alone k g t none =
     let h = (thread k t).hart in
-    ap (λ (o : Option Service). answer_put t (found k g feature_not_enabled o (λ s. served s k g t (arguments h)))) none
+    ap (λ (o : Option Row). answer_put t (called o k g t (arguments h))) none
 
 -- no register changes
 none_put : (h : HartState) → ChangesA0Alone h h
@@ -67,10 +83,10 @@ answer_is_put k t (Value v) = a0_put k t v
 answer_is_put k t Waits = none_put (thread k t).hart
 answer_is_put k t Ended = none_put (thread k t).hart
 
-pub call_changes_a0_alone : RunningIsReady → ReadyIsThread → ThreadIsRight → CallChangesA0Alone
+pub call_changes_a0_alone : Lower → CallChangesA0Alone
 unfolding dispatched
-call_changes_a0_alone is_ready is_thread is_right k g t sound runs =
+call_changes_a0_alone lower k g t sound runs =
     let h = (thread k t).hart in
     let o = call_row (number_asked h) k g t (arguments h) in
-    let keeps = (call_is_row (number_asked h) k g t (arguments h)).caller (running_calls is_ready is_thread is_right k t sound runs) in
+    let keeps = (call_is_kept lower (number_asked h) k g t (arguments h)).caller (lower.calls k t sound runs) in
     subst (λ (was : HartState). ChangesA0Alone was (thread (with_answer o.change.kernel t o.answer) t).hart) keeps (answer_is_put o.change.kernel t o.answer)

@@ -1,24 +1,23 @@
 -- What holds of every call, whatever it asks for.
-use Rattle.std.specs.Prelude.{◌≡◌, ◌≢◌, ℕ, List, None, Some}
+use Rattle.std.specs.Prelude.{◌≡◌, ◌≢◌, ℕ, List, All, None, Some}
 use Rattle.tx_types.specs.Code.{success, suspend_lifted, feature_not_enabled}
 use Rattle.region_guard.specs.Memory.{Memory, IsSound}
 use Rattle.kernel_state.specs.Kernel.{thread}
 use Rattle.kernel_state.specs.Outcome.{answered}
+use Rattle.kernel_state.specs.Range.{WritesAlone}
 use Rattle.kernel_state.specs.Registers.{number_asked, with_a0}
+use Rattle.kernel_state.specs.Row.{Row}
 use Rattle.kernel_state.specs.declared.answer.Answer.TheVariants.{Code}
 use Rattle.kernel_state.specs.declared.kernel.Kernel.{Kernel}
 use Rattle.call_dispatch.specs.Ecall.{dispatched}
-use Rattle.call_dispatch.specs.Results.{WritesAlone, call_result}
-use Rattle.call_dispatch.specs.Rows.{call_row}
-use Rattle.call_dispatch.specs.Service.{service_number, service_of}
-use Rattle.call_dispatch.specs.declared.service.Service.{Service}
+use Rattle.call_dispatch.specs.Rows.{call_result, call_row, row_asked, rows}
 
--- a service is found by its number, and by no other
-abbrev pub NumberNamesItsService : Type 0
-NumberNamesItsService = (s : Service) → service_of (service_number s) ≡ Some s
+-- each row is found by its number, and by no other
+abbrev pub NumberNamesItsRow : Type 0
+NumberNamesItsRow = All (λ r. row_asked r.number ≡ Some r) rows
 
-abbrev pub ServiceHasItsNumber : Type 0
-ServiceHasItsNumber = (n : ℕ) (s : Service) → service_of n ≡ Some s → service_number s ≡ n
+abbrev pub RowHasItsNumber : Type 0
+RowHasItsNumber = (n : ℕ) (r : Row) → row_asked n ≡ Some r → r.number ≡ n
 
 -- no byte changes but those of its result, where the caller's module may store there
 abbrev pub CallWritesItsResultAlone : Type 0
@@ -39,5 +38,5 @@ RefusedCallChangesA0Alone =
 
 abbrev pub NoRowChangesA0Alone : Type 0
 NoRowChangesA0Alone =
-    (k : Kernel) (g : Memory) (t : ℕ) → service_of (number_asked (thread k t).hart) ≡ None
+    (k : Kernel) (g : Memory) (t : ℕ) → row_asked (number_asked (thread k t).hart) ≡ None
     → dispatched k g t ≡ answered (with_a0 k t feature_not_enabled) g feature_not_enabled

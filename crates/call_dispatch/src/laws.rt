@@ -2,26 +2,24 @@
 //!
 //! Their bodies do nothing; a function calls one where its proof needs the law.
 ghost use Rattle.call_dispatch.specs.Caller.{CallChangesA0Alone};
-ghost use Rattle.call_dispatch.specs.Laws.{NumberNamesItsService, ServiceHasItsNumber, CallWritesItsResultAlone, RefusalChangesNothing, RefusedCallChangesA0Alone, NoRowChangesA0Alone};
+ghost use Rattle.call_dispatch.specs.Laws.{NumberNamesItsRow, RowHasItsNumber, CallWritesItsResultAlone, RefusalChangesNothing, RefusedCallChangesA0Alone, NoRowChangesA0Alone};
 
-use flat_ram::a_write_changes_its_range_alone;
-use kernel_state::laws::who_runs_is_a_thread;
-use region_guard::{a_write_changes_its_bytes_alone, what_may_be_used_is_in_ram};
+use kernel_state::laws::a_row_is_made_of_parts;
+use thread_calls::laws::each_row_is_one;
 
 /// Each service has one number, which is no other's.
 pub fn a_service_has_one_number()
-    ensures names { NumberNamesItsService }
-    ensures has { ServiceHasItsNumber }
+    ensures names { NumberNamesItsRow }
+    ensures has { RowHasItsNumber }
 {}
 
-/// A call changes no byte of memory outside of the range that its row names for its result, and none
-/// at all where the caller's module may not store there.
+/// A call changes no byte of memory outside of the ranges that its row names for its result, and none
+/// of these where the caller's module may not store there.
 pub fn a_call_writes_its_result_alone()
     ensures { CallWritesItsResultAlone }
 {
-    a_write_changes_its_range_alone();
-    a_write_changes_its_bytes_alone();
-    what_may_be_used_is_in_ram();
+    a_row_is_made_of_parts();
+    each_row_is_one();
 }
 
 /// A call that is refused changes the a0 of its caller and nothing else: where its status is neither
@@ -30,11 +28,15 @@ pub fn a_refused_call_changes_its_a0_alone()
     ensures row { RefusalChangesNothing }
     ensures refused { RefusedCallChangesA0Alone }
     ensures no_row { NoRowChangesA0Alone }
-{}
+{
+    a_row_is_made_of_parts();
+    each_row_is_one();
+}
 
 /// A call changes no register of its caller but a0, whatever it asks for.
 pub fn a_call_changes_its_a0_alone()
     ensures { CallChangesA0Alone }
 {
-    who_runs_is_a_thread();
+    a_row_is_made_of_parts();
+    each_row_is_one();
 }

@@ -7,7 +7,5 @@
 mod ecall;
 pub mod laws;
 mod rows;
-mod service;
 
 pub use ecall::dispatch;
-pub use service::Service;

@@ -1,6 +1,7 @@
 pub mod Blank
 pub mod Making
 pub mod NamedIsLive
+pub mod Row
 pub mod Running
 pub mod Scheduling
 pub mod Sound

@@ -4,7 +4,9 @@ pub mod Kernel
 pub mod Laws
 pub mod Lending
 pub mod Outcome
+pub mod Range
 pub mod Registers
+pub mod Row
 pub mod Rows
 pub mod Scheduling
 pub mod Serves

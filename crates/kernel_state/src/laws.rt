@@ -1,11 +1,16 @@
 //! How a kernel stays sound, for the services: each function's contract is a law.
 //!
 //! Their bodies do nothing; a function calls one where its proof needs the law.
+ghost use Rattle.std.specs.Prelude.{ℕ, List};
+ghost use Rattle.tx_types.specs.declared.kind.Kind.{Kind};
 ghost use Rattle.kernel_state.specs.Scheduling.{ReadyChangesOne, UnreadyChangesOne, YieldChangesNone, ThresholdChangesOne, PriorityChangesOne};
 ghost use Rattle.kernel_state.specs.Laws.{EffectiveStays, EffectiveFits, SoundFrom, OneThreadChanges, OneStateChanges, OneHartChanges, OneSlotChanges, OneSpotChanges, OneThreadIsMade, OneThreadIsRemoved, RunningIsReady, ReadyIsThread, ThreadIsRight};
+ghost use Rattle.kernel_state.specs.Row.{AnsweredIsKept, ChangedIsKept, DoneIsKept, WrittenIsKept, UnlessIsKept, FoundIsKept, GivenIsKept, EitherIsKept, RunningCalls};
 ghost use Rattle.kernel_state.specs.ThreadLaws.{ReadyKeepsSound, UnreadyKeepsSound, HeldKeepsSound, FreshKeepsSound, StartKeepsServing, SuspendKeepsServing, EndKeepsServing, ResetKeepsServing};
 
+use flat_ram::a_write_changes_its_range_alone;
 use ready_maps::laws::{a_move_changes_its_thread_alone, moves_keep_the_facts};
+use region_guard::{a_write_changes_its_bytes_alone, what_may_be_used_is_in_ram};
 
 /// What each move of the scheduler leaves of its own thread and of the others.
 pub fn a_move_leaves_others_alone()
@@ -72,3 +77,23 @@ pub fn who_runs_is_a_thread()
     ensures ready_is_thread { ReadyIsThread }
     ensures thread_is_right { ThreadIsRight }
 {}
+
+/// What each part of a row keeps: that bytes change in its ranges alone, that a refusal comes with no
+/// change, and that the caller has its registers afterwards.
+pub fn a_row_is_made_of_parts()
+    ensures calls { RunningCalls }
+    ensures answered { AnsweredIsKept }
+    ensures changed { ChangedIsKept }
+    ensures done { DoneIsKept }
+    ensures written { WrittenIsKept }
+    ensures unless { UnlessIsKept }
+    ensures found { FoundIsKept ℕ }
+    ensures found_kind { FoundIsKept Kind }
+    ensures given_name { GivenIsKept (List ℕ) }
+    ensures either { EitherIsKept }
+{
+    who_runs_is_a_thread();
+    a_write_changes_its_range_alone();
+    a_write_changes_its_bytes_alone();
+    what_may_be_used_is_in_ram();
+}

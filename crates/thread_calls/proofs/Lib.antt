@@ -1,3 +1,5 @@
+pub mod Callers
 pub mod Created
+pub mod EachRow
 pub mod NumberChanges
 pub mod SlotChanges

@@ -2,9 +2,11 @@
 //!
 //! Their bodies do nothing; a function calls one where its proof needs the law.
 ghost use Rattle.thread_calls.specs.Laws.{ThresholdKeepsSound, PriorityKeepsSound, SliceKeepsSound, YieldKeepsSound, AllocateKeepsSound, DeallocateKeepsSound, GrantKeepsSound};
+ghost use Rattle.thread_calls.specs.Rows.{EachRowIsOne};
 
 use kernel_state::laws::{
-    a_kernel_stays_sound, a_move_leaves_others_alone, an_effective_pair_fits, who_runs_is_a_thread,
+    a_kernel_stays_sound, a_move_leaves_others_alone, a_row_is_made_of_parts,
+    an_effective_pair_fits, who_runs_is_a_thread,
 };
 
 /// New numbers of a thread, and a yield.
@@ -27,4 +29,12 @@ pub fn a_change_of_slots_keeps_sound()
     ensures grant { GrantKeepsSound }
 {
     a_kernel_stays_sound();
+}
+
+/// What each service of this crate keeps: that it changes bytes in its ranges alone, refuses with no
+/// change, and leaves its caller's registers.
+pub fn each_row_is_one()
+    ensures { EachRowIsOne }
+{
+    a_row_is_made_of_parts();
 }

@@ -14,9 +14,8 @@ use Rattle.object_grants.specs.declared.slot.SlotState.TheVariants.{Empty, Live}
 use Rattle.region_guard.specs.Memory.{Memory}
 use Rattle.kernel_state.specs.Change.{Change, quiet}
 use Rattle.kernel_state.specs.Kernel.{thread, with_thread, is_thread, module_of, placed}
-use Rattle.kernel_state.specs.Laws.{RunningIsReady, ReadyIsThread, ThreadIsRight}
+use Rattle.kernel_state.specs.Row.{KeepsCaller}
 use Rattle.kernel_state.specs.Outcome.{refused}
-use Rattle.kernel_state.specs.Sound.{IsSound, IsEntry, IsThread}
 use Rattle.kernel_state.specs.Tests.{reserved}
 use Rattle.kernel_state.specs.Thread.{blank_thread, is_over, is_state, is_waiting}
 use Rattle.kernel_state.specs.ThreadChanges.{started, suspended, ended, reset, with_fresh}
@@ -24,23 +23,6 @@ use Rattle.kernel_state.specs.declared.kernel.Kernel.{Kernel}
 use Rattle.kernel_state.specs.declared.thread.Thread.{Thread}
 use Rattle.thread_calls.specs.Create.{created, spec_of}
 use Rattle.thread_calls.specs.declared.create.ThreadBlock.{ThreadBlock}
-
--- what is known of a caller: it is a thread, and it is ready
-pub record IsCaller (k : Kernel) (by : ℕ) : Type 0 where
-  pub live : is_thread k by ≡ true
-  pub state : state_number (thread k by).state ≡ 0
-
--- the caller has its registers afterwards
-abbrev pub KeepsCaller : Kernel → ℕ → Kernel → Type 0
-KeepsCaller k by now = IsCaller k by → (thread now by).hart ≡ (thread k by).hart
-
--- what runs is a caller
-pub running_calls : RunningIsReady → ReadyIsThread → ThreadIsRight → (k : Kernel) (by : ℕ) → IsSound k → k.ready.run ≡ Some by → IsCaller k by
-running_calls is_ready_then is_thread_then is_right_then k by sound runs =
-    let ready = is_ready_then k by sound runs in
-    let live = is_thread_then k by sound ready in
-    let right : IsThread k by = subst (IsEntry k by) live (is_right_then k by sound live).1.entry in
-    record { live = live; state = eqb-true (state_number (thread k by).state) 0 (sym right.ready ∙ ready) }
 
 -- a thread changes, and keeps its registers
 pub hart_kept : (k : Kernel) (by t : ℕ) (now : Thread) → now.hart ≡ (thread k t).hart → (thread (with_thread k t now) by).hart ≡ (thread k by).hart

@@ -1,0 +1,101 @@
+-- A row of the table of services: its number in a7, what it does, and where it may write; and what every row keeps.
+use Rattle.std.specs.Prelude.{◌≡◌, ◌≢◌, ℕ, ◌*◌, ◌<◌, ◌==◌, true, Bool, List, [], ◌∷◌, length, Option, None, Some, Result, find, if◌then◌else◌}
+use Rattle.tx_types.specs.Code.{success, suspend_lifted, feature_not_enabled}
+use Rattle.tx_types.specs.State.{state_number}
+use Rattle.call_arguments.specs.Pointers.{pointer_refusal}
+use Rattle.call_arguments.specs.Words.{with_words}
+use Rattle.region_guard.specs.Memory.{Memory, IsSound as IsSoundMemory}
+use Rattle.region_guard.specs.declared.region.Access.TheVariants.{Store}
+use Rattle.kernel_state.specs.Change.{Change, quiet}
+use Rattle.kernel_state.specs.Kernel.{thread, is_thread, module_of}
+use Rattle.kernel_state.specs.Outcome.{Outcome, answered, answering, done, found, given, unless}
+use Rattle.kernel_state.specs.Range.{Range, WritesAlone, allowed, range}
+use Rattle.kernel_state.specs.Sound.{IsSound}
+use Rattle.kernel_state.specs.declared.answer.Answer.{Answer}
+use Rattle.kernel_state.specs.declared.answer.Answer.TheVariants.{Code}
+use Rattle.kernel_state.specs.declared.kernel.Kernel.{Kernel}
+
+-- what a row does, and where it writes, are by the caller's thread and its arguments
+pub record Row : Type 0 where
+  pub number : ℕ
+  pub does : Kernel → Memory → ℕ → List ℕ → Outcome
+  pub writes : Kernel → ℕ → List ℕ → List Range
+
+-- the row of a number
+abbrev pub row_of : ℕ → List Row → Option Row
+row_of n rows = find (λ r. r.number == n) rows
+
+-- what a call of a number does; without a row it is refused
+abbrev pub called : Option Row → Kernel → Memory → ℕ → List ℕ → Outcome
+called r k g by a = found k g feature_not_enabled r (λ row. row.does k g by a)
+
+-- what is known of a caller: it is a thread, and it is ready
+pub record IsCaller (k : Kernel) (by : ℕ) : Type 0 where
+  pub live : is_thread k by ≡ true
+  pub state : state_number (thread k by).state ≡ 0
+
+-- the caller has its registers afterwards
+abbrev pub KeepsCaller : Kernel → ℕ → Kernel → Type 0
+KeepsCaller k by now = IsCaller k by → (thread now by).hart ≡ (thread k by).hart
+
+-- an answer that isn't a refusal: any but a status that is neither SUCCESS nor SUSPEND_LIFTED
+abbrev pub IsNoRefusal : Answer → Type 0
+IsNoRefusal answer = (c : ℕ) → answer ≡ Code c → c ≢ success → c ≢ suspend_lifted → ⊥
+
+-- what the outcome of a row keeps: bytes outside of its ranges, all where it is a refusal, and the caller's registers
+pub record IsKept (ranges : List Range) (k : Kernel) (g : Memory) (by : ℕ) (o : Outcome) : Type 0 where
+  pub alone : IsSoundMemory g → WritesAlone ranges g o.change.memory
+  pub refusal : (c : ℕ) → o.answer ≡ Code c → c ≢ success → c ≢ suspend_lifted → o ≡ answered k g c
+  pub caller : KeepsCaller k by o.change.kernel
+
+abbrev pub IsRow : Row → Type 0
+IsRow r =
+    (k : Kernel) (g : Memory) (by : ℕ) (a : List ℕ) → IsKept (allowed g (module_of k by) (r.writes k by a)) k g by (r.does k g by a)
+
+-- who runs is a caller
+abbrev pub RunningCalls : Type 0
+RunningCalls = (k : Kernel) (by : ℕ) → IsSound k → k.ready.run ≡ Some by → IsCaller k by
+
+-- the parts of a row, each of which keeps that. A refusal:
+abbrev pub AnsweredIsKept : Type 0
+AnsweredIsKept = (r : List Range) (k : Kernel) (g : Memory) (by c : ℕ) → IsKept r k g by (answered k g c)
+
+-- a change of the kernel alone
+abbrev pub ChangedIsKept : Type 0
+ChangedIsKept =
+    (r : List Range) (k : Kernel) (g : Memory) (by : ℕ) (now : Change) (answer : Answer) → IsNoRefusal answer
+    → now.memory ≡ g → KeepsCaller k by now.kernel → IsKept r k g by (answering now answer)
+
+abbrev pub DoneIsKept : Type 0
+DoneIsKept =
+    (r : List Range) (k : Kernel) (g : Memory) (by : ℕ) (now : Change)
+    → now.memory ≡ g → KeepsCaller k by now.kernel → IsKept r k g by (done now)
+
+-- a change of the kernel, and words that are written to a pointer that isn't refused
+abbrev pub WrittenIsKept : Type 0
+WrittenIsKept =
+    (k : Kernel) (g : Memory) (by : ℕ) (now : Kernel) (m x : ℕ) (ws : List ℕ) → 0 < length ws
+    → pointer_refusal g m Store x (4 * length ws) ≡ None → KeepsCaller k by now
+    → IsKept (allowed g m (range x (4 * length ws) ∷ [])) k g by (done (quiet now (with_words g x ws)))
+
+-- what comes after a test
+abbrev pub UnlessIsKept : Type 0
+UnlessIsKept =
+    (r : List Range) (k : Kernel) (g : Memory) (by : ℕ) (o : Option ℕ) (change : Outcome)
+    → (o ≡ None → IsKept r k g by change) → IsKept r k g by (unless k g o change)
+
+abbrev pub FoundIsKept : Type 0 → Type 0
+FoundIsKept A =
+    (r : List Range) (k : Kernel) (g : Memory) (by c : ℕ) (o : Option A) (change : A → Outcome)
+    → ((x : A) → o ≡ Some x → IsKept r k g by (change x)) → IsKept r k g by (found k g c o change)
+
+abbrev pub GivenIsKept : Type 0 → Type 0
+GivenIsKept A =
+    (r : List Range) (k : Kernel) (g : Memory) (by : ℕ) (o : Result A ℕ) (change : A → Outcome)
+    → ((x : A) → IsKept r k g by (change x)) → IsKept r k g by (given k g o change)
+
+-- either of two outcomes
+abbrev pub EitherIsKept : Type 0
+EitherIsKept =
+    (r : List Range) (k : Kernel) (g : Memory) (by : ℕ) (b : Bool) (x y : Outcome) → IsKept r k g by x → IsKept r k g by y
+    → IsKept r k g by (if b then x else y)

@@ -1,0 +1,248 @@
+-- Each row writes its result alone, refuses with no change, and keeps the registers of the caller.
+use Rattle.std.proofs.Common.{◌≡◌, ℕ, ◌==◌, false, refl, not, nat_le, nat_lt, List, [], ◌∷◌, Some, None, position, All, lit<}
+use Rattle.std.proofs.lemmas.Bool.{cond_both}
+use Rattle.std.proofs.lemmas.List.Elements.{All-cons, All-nil}
+use Rattle.tx_types.specs.Code.{success, ptr_error, option_error, no_instance, no_memory, thread_error, priority_error, delete_error, resume_error, suspend_error, thresh_error, suspend_lifted, not_done}
+use Rattle.tx_types.specs.Kind.{kind_of}
+use Rattle.tx_types.specs.declared.kind.Kind.{Kind}
+use Rattle.tx_types.specs.declared.kind.Kind.TheVariants.{Thread}
+use Rattle.tx_types.specs.declared.state.State.TheVariants.{Completed, Terminated, Suspended}
+use Rattle.call_arguments.specs.Names.{name_at}
+use Rattle.object_grants.specs.Slot.{is_usable, is_own_empty, has_name}
+use Rattle.object_grants.specs.Table.{ref_of, named as names_slot, after_deallocate}
+use Rattle.ready_maps.specs.Moves.{yielded}
+use Rattle.region_guard.specs.Memory.{Memory}
+use Rattle.region_guard.specs.declared.region.Access.TheVariants.{Load, Store}
+use Rattle.kernel_state.specs.Change.{quiet}
+use Rattle.kernel_state.specs.Kernel.{thread, module_of, removed_thread}
+use Rattle.kernel_state.specs.Outcome.{refused}
+use Rattle.kernel_state.specs.Range.{Range, allowed, range}
+use Rattle.kernel_state.specs.Registers.{arg}
+use Rattle.kernel_state.specs.Row.{Row, IsRow, IsNoRefusal, AnsweredIsKept, ChangedIsKept, DoneIsKept, WrittenIsKept, UnlessIsKept, FoundIsKept, GivenIsKept, EitherIsKept}
+use Rattle.kernel_state.specs.Tests.{named, reserved, owner_refusal, caller_refusal}
+use Rattle.kernel_state.specs.Thread.{is_over, is_state}
+use Rattle.kernel_state.specs.ThreadChanges.{started, suspended, with_held, ended, reset}
+use Rattle.kernel_state.specs.declared.answer.Answer.TheVariants.{Code, Value, Ended}
+use Rattle.kernel_state.specs.declared.kernel.Kernel.{Kernel}
+use Rattle.thread_calls.specs.Create.{block_at, block_refusal, created}
+use Rattle.thread_calls.specs.Numbers.{with_user_threshold, with_user_priority, with_slice, thread_info}
+use Rattle.thread_calls.specs.ObjectRows.{allocation, granting, object_allocate_row, object_deallocate_row, object_pointer_get_row}
+use Rattle.thread_calls.specs.Rows.{EachRowIsOne, row, row_to, rows}
+use Rattle.thread_calls.specs.ThreadRows.{end_answer, creation, resumption, starting, threshold_change, priority_change, slice_change, thread_create_row, thread_delete_row, thread_terminate_row, thread_suspend_row, thread_resume_row, thread_relinquish_row, thread_identify_row, thread_info_get_row, thread_preemption_change_row, thread_priority_change_row, thread_time_slice_change_row, thread_reset_row, thread_complete_row}
+use Rattle.thread_calls.proofs.Callers.{hart_kept, started_kept, suspended_kept, ended_kept, reset_kept, created_kept, created_memory}
+
+-- the laws of the layer below
+pub record Parts : Type 0 where
+  pub answered : AnsweredIsKept
+  pub changed : ChangedIsKept
+  pub done : DoneIsKept
+  pub written : WrittenIsKept
+  pub unless : UnlessIsKept
+  pub found : FoundIsKept ℕ
+  pub found_kind : FoundIsKept Kind
+  pub given_name : GivenIsKept (List ℕ)
+  pub either : EitherIsKept
+
+-- an answer that isn't a refusal
+success_is_no_refusal : IsNoRefusal (Code success)
+success_is_no_refusal c same no_success not_lifted = no_success (let is_success : c ≡ success = cc in is_success)
+
+lifted_is_no_refusal : IsNoRefusal (Code suspend_lifted)
+lifted_is_no_refusal c same no_success not_lifted = not_lifted (let is_lifted : c ≡ suspend_lifted = cc in is_lifted)
+
+value_is_no_refusal : (v : ℕ) → IsNoRefusal (Value v)
+value_is_no_refusal v c same no_success not_lifted = cc
+
+ended_is_no_refusal : IsNoRefusal Ended
+ended_is_no_refusal c same no_success not_lifted = cc
+
+-- who ends itself gets no answer, and another thread's end is a success
+end_is_no_refusal : (by t : ℕ) → IsNoRefusal (end_answer by t)
+end_is_no_refusal by t = cond_both (t == by) Ended (Code success) IsNoRefusal (λ yes. ended_is_no_refusal) (λ no. success_is_no_refusal)
+
+module _ (parts : Parts) where
+  object_allocate_is_row : IsRow (row_to 1 4 0x01 object_allocate_row)
+  unfolding object_allocate_row allocation
+  object_allocate_is_row k g by a =
+      let m = module_of k by in
+      let r = allowed g m (range (arg a 1) 4 ∷ []) in
+      parts.found_kind r k g by option_error (kind_of (arg a 0)) _ (λ kind at.
+      parts.unless r k g by (caller_refusal k g by Store (arg a 1) 4) _ (λ free.
+      parts.found r k g by no_memory (position is_usable k.objects) _ (λ o at.
+      parts.written k g by _ m (arg a 1) (_ ∷ []) (lit< tt) free (λ calls. refl))))
+
+  object_deallocate_is_row : IsRow (row 0x02 object_deallocate_row)
+  unfolding object_deallocate_row
+  object_deallocate_is_row k g by a =
+      let m = module_of k by in
+      parts.either [] k g by (names_slot k.objects (arg a 0) (is_own_empty m)) _ _
+      (parts.done [] k g by (quiet (record k { objects = after_deallocate k.objects m (arg a 0) }) g) refl (λ calls. refl))
+      (parts.answered [] k g by ptr_error)
+
+  object_pointer_get_is_row : IsRow (row_to 2 4 0x03 object_pointer_get_row)
+  unfolding object_pointer_get_row granting
+  object_pointer_get_is_row k g by a =
+      let m = module_of k by in
+      let r = allowed g m (range (arg a 2) 4 ∷ []) in
+      parts.found_kind r k g by option_error (kind_of (arg a 0)) _ (λ kind at.
+      parts.given_name r k g by (name_at g m (arg a 1)) _ (λ name.
+      parts.unless r k g by (caller_refusal k g by Store (arg a 2) 4) _ (λ free.
+      parts.found r k g by no_instance (position (has_name kind name) k.objects) _ (λ o at.
+      parts.written k g by _ m (arg a 2) (_ ∷ []) (lit< tt) free (λ calls. refl)))))
+
+  thread_create_is_row : IsRow (row 0x10 thread_create_row)
+  unfolding thread_create_row creation
+  thread_create_is_row k g by a =
+      parts.found [] k g by thread_error (reserved k by (arg a 0) Thread) _ (λ o at.
+      parts.given_name [] k g by (name_at g (module_of k by) (arg a 1)) _ (λ name.
+      parts.unless [] k g by (caller_refusal k g by Load (arg a 2) 32) _ (λ free.
+      parts.unless [] k g by (block_refusal k g by (block_at g (arg a 2))) _ (λ right.
+      parts.done [] k g by (created k g by o name (block_at g (arg a 2))) (created_memory k g by o name (block_at g (arg a 2))) (created_kept k g by (arg a 0) o name (block_at g (arg a 2)) at)))))
+
+  thread_delete_is_row : IsRow (row 0x11 thread_delete_row)
+  unfolding thread_delete_row
+  thread_delete_is_row k g by a =
+      parts.found [] k g by thread_error (named k by (arg a 0) Thread) _ (λ t at.
+      parts.unless [] k g by (owner_refusal k by t) _ (λ own.
+      parts.unless [] k g by (refused (not (is_over (thread k t).state)) delete_error) _ (λ over.
+      parts.done [] k g by (quiet (removed_thread k t) g) refl (λ calls. refl))))
+
+  thread_terminate_is_row : IsRow (row 0x12 thread_terminate_row)
+  unfolding thread_terminate_row
+  thread_terminate_is_row k g by a =
+      parts.found [] k g by thread_error (named k by (arg a 0) Thread) _ (λ t at.
+      parts.changed [] k g by (ended k g t Terminated) (end_answer by t) (end_is_no_refusal by t) refl (λ calls. ended_kept k g by t Terminated))
+
+  thread_suspend_is_row : IsRow (row 0x13 thread_suspend_row)
+  unfolding thread_suspend_row
+  thread_suspend_is_row k g by a =
+      parts.found [] k g by thread_error (named k by (arg a 0) Thread) _ (λ t at.
+      parts.unless [] k g by (refused (is_over (thread k t).state) suspend_error) _ (λ runs.
+      parts.done [] k g by (suspended k g t) refl (λ calls. suspended_kept k g by t)))
+
+  thread_resume_is_row : IsRow (row 0x14 thread_resume_row)
+  unfolding thread_resume_row resumption starting
+  thread_resume_is_row k g by a =
+      parts.found [] k g by thread_error (named k by (arg a 0) Thread) _ (λ t at.
+      parts.either [] k g by (thread k t).held _ _
+      (parts.changed [] k g by (quiet (with_held k t false) g) (Code suspend_lifted) lifted_is_no_refusal refl (λ calls. hart_kept k by t (record (thread k t) { held = false }) refl))
+      (parts.unless [] k g by (refused (not (is_state (thread k t).state Suspended)) resume_error) _ (λ rests.
+      parts.done [] k g by (started k g t) refl (λ calls. started_kept k g by t))))
+
+  thread_relinquish_is_row : IsRow (row 0x16 thread_relinquish_row)
+  unfolding thread_relinquish_row
+  thread_relinquish_is_row k g by a = parts.done [] k g by (quiet (record k { ready = yielded k.ready }) g) refl (λ calls. refl)
+
+  thread_identify_is_row : IsRow (row 0x17 thread_identify_row)
+  unfolding thread_identify_row
+  thread_identify_is_row k g by a = parts.changed [] k g by (quiet k g) (Value (ref_of k.objects by)) (value_is_no_refusal (ref_of k.objects by)) refl (λ calls. refl)
+
+  thread_info_get_is_row : IsRow (row_to 1 32 0x18 thread_info_get_row)
+  unfolding thread_info_get_row
+  thread_info_get_is_row k g by a =
+      let m = module_of k by in
+      let r = allowed g m (range (arg a 1) 32 ∷ []) in
+      parts.found r k g by thread_error (named k by (arg a 0) Thread) _ (λ t at.
+      parts.unless r k g by (caller_refusal k g by Store (arg a 1) 32) _ (λ free.
+      parts.written k g by k m (arg a 1) (thread_info k t) (lit< tt) free (λ calls. refl)))
+
+  thread_preemption_change_is_row : IsRow (row_to 2 4 0x19 thread_preemption_change_row)
+  unfolding thread_preemption_change_row threshold_change
+  thread_preemption_change_is_row k g by a =
+      let m = module_of k by in
+      let r = allowed g m (range (arg a 2) 4 ∷ []) in
+      parts.found r k g by thread_error (named k by (arg a 0) Thread) _ (λ t at.
+      parts.unless r k g by (caller_refusal k g by Store (arg a 2) 4) _ (λ free.
+      parts.unless r k g by (refused (nat_lt (thread k t).priority (arg a 1)) thresh_error) _ (λ right.
+      parts.written k g by (with_user_threshold k t (arg a 1)) m (arg a 2) ((thread k t).threshold ∷ []) (lit< tt) free (λ calls. hart_kept k by t _ refl))))
+
+  thread_priority_change_is_row : IsRow (row_to 2 4 0x1A thread_priority_change_row)
+  unfolding thread_priority_change_row priority_change
+  thread_priority_change_is_row k g by a =
+      let m = module_of k by in
+      let r = allowed g m (range (arg a 2) 4 ∷ []) in
+      parts.found r k g by thread_error (named k by (arg a 0) Thread) _ (λ t at.
+      parts.unless r k g by (caller_refusal k g by Store (arg a 2) 4) _ (λ free.
+      parts.unless r k g by (refused (nat_le k.ready.levels (arg a 1)) priority_error) _ (λ right.
+      parts.written k g by (with_user_priority k t (arg a 1)) m (arg a 2) ((thread k t).priority ∷ []) (lit< tt) free (λ calls. hart_kept k by t _ refl))))
+
+  thread_time_slice_change_is_row : IsRow (row_to 2 4 0x1B thread_time_slice_change_row)
+  unfolding thread_time_slice_change_row slice_change
+  thread_time_slice_change_is_row k g by a =
+      let m = module_of k by in
+      let r = allowed g m (range (arg a 2) 4 ∷ []) in
+      parts.found r k g by thread_error (named k by (arg a 0) Thread) _ (λ t at.
+      parts.unless r k g by (caller_refusal k g by Store (arg a 2) 4) _ (λ free.
+      parts.written k g by (with_slice k t (arg a 1)) m (arg a 2) ((thread k t).slice ∷ []) (lit< tt) free (λ calls. hart_kept k by t _ refl)))
+
+  thread_reset_is_row : IsRow (row 0x1D thread_reset_row)
+  unfolding thread_reset_row
+  thread_reset_is_row k g by a =
+      parts.found [] k g by thread_error (named k by (arg a 0) Thread) _ (λ t at.
+      parts.unless [] k g by (refused (not (is_over (thread k t).state)) not_done) _ (λ over.
+      parts.done [] k g by (reset k g t) refl (reset_kept k g by t not_done over)))
+
+  thread_complete_is_row : IsRow (row 0x1F thread_complete_row)
+  unfolding thread_complete_row
+  thread_complete_is_row k g by a = parts.changed [] k g by (ended k g by Completed) Ended ended_is_no_refusal refl (λ calls. ended_kept k g by by Completed)
+
+-- what holds of each element, one after another
+abbrev EachOf : (Row → Type 0) → List Row → Type 0
+EachOf P [] = Unit {0}
+EachOf P (r ∷ rs) = P r × EachOf P rs
+
+all_of : (P : Row → Type 0) (rs : List Row) → EachOf P rs → All P rs
+all_of P [] each = All-nil P
+all_of P (r ∷ rs) each = All-cons P r rs each.0 (all_of P rs each.1)
+
+pub each_row_is_one : Parts → EachRowIsOne
+each_row_is_one parts =
+    all_of IsRow rows (
+      object_allocate_is_row parts,
+      (
+        object_deallocate_is_row parts,
+        (
+          object_pointer_get_is_row parts,
+          (
+            thread_create_is_row parts,
+            (
+              thread_delete_is_row parts,
+              (
+                thread_terminate_is_row parts,
+                (
+                  thread_suspend_is_row parts,
+                  (
+                    thread_resume_is_row parts,
+                    (
+                      thread_relinquish_is_row parts,
+                      (
+                        thread_identify_is_row parts,
+                        (
+                          thread_info_get_is_row parts,
+                          (
+                            thread_preemption_change_is_row parts,
+                            (
+                              thread_priority_change_is_row parts,
+                              (
+                                thread_time_slice_change_is_row parts,
+                                (
+                                  thread_reset_is_row parts,
+                                  (
+                                    thread_complete_is_row parts,
+                                    tt,
+                                  ),
+                                ),
+                              ),
+                            ),
+                          ),
+                        ),
+                      ),
+                    ),
+                  ),
+                ),
+              ),
+            ),
+          ),
+        ),
+      ),
+    )

@@ -1,0 +1,17 @@
+use Rattle.thread_calls.proofs.EachRow.{Parts, each_row_is_one}
+use Rattle.thread_calls.proofs.laws.each_row_is_one.Goals as goal
+
+pub returns : goal.returns
+returns c =
+    let parts = c.a_row_is_made_of_parts.ensures in
+    each_row_is_one (record {
+      answered = parts.answered;
+      changed = parts.changed;
+      done = parts.done;
+      written = parts.written;
+      unless = parts.unless;
+      found = parts.found;
+      found_kind = parts.found_kind;
+      given_name = parts.given_name;
+      either = parts.either;
+    })
