@@ -29,9 +29,10 @@ use Rattle.board_core.specs.Action.{acted, device_of, resumed_by_name}
 use Rattle.board_core.specs.Bus.{seen}
 use Rattle.board_core.specs.Frame.{IsOutsideAll, effect_frame, frame, if_any, step_frame}
 use Rattle.board_core.specs.Laws.{FrameLaw, IsWorld}
-use Rattle.board_core.specs.Next.{next}
+use Rattle.board_core.specs.After.{after}
 use Rattle.board_core.specs.Step.{after_effect, after_fault, next_effect, stepped, stepped_by, with_hart}
 use Rattle.board_core.specs.World.{World}
+use Rattle.board_core.specs.declared.parts.Parts.{Parts}
 use Rattle.board_core.proofs.Effects.{IsAllowed, executed_allowed}
 use Rattle.board_core.proofs.Running.{running_below, thread-with_hart}
 
@@ -81,29 +82,29 @@ called_within lower k g t n a sound =
     record { regions = alone.regions; size = alone.size; bytes = λ x outside. alone.bytes x (outside_of (call_result n k g t a) x outside) }
 
 dispatched_within : Lower → (w : World) (t : ℕ) (h : HartState) → IsWorld w → t < 256
-    → ChangesWithin (effect_frame w t (Calls h)) w.memory (dispatched (with_hart w.kernel t h) w.memory t).memory
+    → ChangesWithin (effect_frame w.parts t (Calls h)) w.parts.memory (dispatched (with_hart w.parts.kernel t h) w.parts.memory t).memory
 unfolding dispatched
 dispatched_within lower w t h world below =
-    let k = with_hart w.kernel t h in
-    let same : (thread k t).hart ≡ h = ap (λ (u : Thread). u.hart) (thread-with_hart w.kernel t h world.kernel below) in
-    subst (λ (f : HartState). ChangesWithin (effect_frame w t (Calls h)) w.memory (call_row (number_asked f) k w.memory t (arguments f)).memory)
-    (sym same) (called_within lower k w.memory t (number_asked h) (arguments h) world.memory)
+    let k = with_hart w.parts.kernel t h in
+    let same : (thread k t).hart ≡ h = ap (λ (u : Thread). u.hart) (thread-with_hart w.parts.kernel t h world.kernel below) in
+    subst (λ (f : HartState). ChangesWithin (effect_frame w.parts t (Calls h)) w.parts.memory (call_row (number_asked f) k w.parts.memory t (arguments f)).memory)
+    (sym same) (called_within lower k w.parts.memory t (number_asked h) (arguments h) world.memory)
 
 -- a step
-effect_within : Lower → (w : World) (t : ℕ) (e : Effect) → IsWorld w → t < 256 → IsAllowed (seen (module_of w.kernel t) w.memory) e
-    → ChangesWithin (effect_frame w t e) w.memory (after_effect w.kernel w.memory w.modules t e).memory
+effect_within : Lower → (w : World) (t : ℕ) (e : Effect) → IsWorld w → t < 256 → IsAllowed (seen (module_of w.parts.kernel t) w.parts.memory) e
+    → ChangesWithin (effect_frame w.parts t e) w.parts.memory (after_effect w.parts t e).memory
 unfolding after_fault
-effect_within lower w t (Completes h) world below allowed = nothing_changes w.memory
-effect_within lower w t (Stores a n value h) world below allowed = stored_within lower w.memory (module_of w.kernel t) a n value world.memory allowed.0 allowed.1
+effect_within lower w t (Completes h) world below allowed = nothing_changes w.parts.memory
+effect_within lower w t (Stores a n value h) world below allowed = stored_within lower w.parts.memory (module_of w.parts.kernel t) a n value world.memory allowed.0 allowed.1
 effect_within lower w t (Calls h) world below allowed = dispatched_within lower w t h world below
-effect_within lower w t (Faults cause) world below allowed = nothing_changes w.memory
+effect_within lower w t (Faults cause) world below allowed = nothing_changes w.parts.memory
 
-step_within : Lower → (w : World) (run : Option ℕ) → IsWorld w → w.kernel.ready.run ≡ run
-    → ChangesWithin (step_frame w run) w.memory (stepped_by w.kernel w.memory w.modules run).memory
-step_within lower w None world runs = nothing_changes w.memory
+step_within : Lower → (w : World) (run : Option ℕ) → IsWorld w → w.parts.kernel.ready.run ≡ run
+    → ChangesWithin (step_frame w.parts run) w.parts.memory (stepped_by w.parts run).memory
+step_within lower w None world runs = nothing_changes w.parts.memory
 step_within lower w (Some t) world runs =
-    effect_within lower w t (next_effect w.kernel w.memory t) world (running_below lower.is_ready lower.is_thread w.kernel t world.kernel runs)
-    (executed_allowed (seen (module_of w.kernel t) w.memory) (thread w.kernel t).hart)
+    effect_within lower w t (next_effect w.parts t) world (running_below lower.is_ready lower.is_thread w.parts.kernel t world.kernel runs)
+    (executed_allowed (seen (module_of w.parts.kernel t) w.parts.memory) (thread w.parts.kernel t).hart)
 
 -- an interrupt
 unless-memory : (k : Kernel) (g : Memory) (refusal : Option ℕ) (change : Outcome) → change.memory ≡ g → (unless k g refusal change).memory ≡ g
@@ -119,17 +120,18 @@ found-memory : (k : Kernel) (g : Memory) (o : Option ℕ) → (found k g thread_
 found-memory k g None = refl
 found-memory k g (Some t) = resumption-memory k g t
 
-acted-memory : (k : Kernel) (g : Memory) (action : Action) (target : List ℕ) (word : ℕ) → (acted k g action target word).memory ≡ g
+acted-memory : (p : Parts) (action : Action) (target : List ℕ) (word : ℕ) → (acted p action target word).parts.memory ≡ p.memory
 unfolding resumed_by_name
-acted-memory k g Resume target word = found-memory k g (position (has_name ThreadKind target) k.objects)
-acted-memory k g _ target word = refl
+acted-memory p Resume target word = found-memory p.kernel p.memory (position (has_name ThreadKind target) p.kernel.objects)
+acted-memory p _ target word = refl
 
 -- every event
-pub event_within : Lower → (w : World) (e : Event) → IsWorld w → ChangesWithin (frame w e) w.memory (next w e).memory
+pub event_within : Lower → (w : World) (e : Event) → IsWorld w → ChangesWithin (frame w e) w.parts.memory (after w e).parts.memory
 unfolding stepped
-event_within lower w Step world = step_within lower w w.kernel.ready.run world refl
+event_within lower w Step world = step_within lower w w.parts.kernel.ready.run world refl
 event_within lower w (Irq d word) world =
-    subst (ChangesWithin [] w.memory) (sym (acted-memory w.kernel w.memory (device_of w.board d).action (device_of w.board d).target word)) (nothing_changes w.memory)
+    subst (ChangesWithin [] w.parts.memory) (sym (acted-memory w.parts (device_of w.board d).action (device_of w.board d).target word))
+    (nothing_changes w.parts.memory)
 
 pub frame_law : Lower → FrameLaw
 frame_law lower w e x world outside = (event_within lower w e world).bytes x outside

@@ -12,7 +12,7 @@ use Rattle.region_guard.specs.Memory.{Memory, IsInRam, byte, bytes_from, ram_bas
 use Rattle.event_log.specs.Events.{Event}
 use Rattle.board_core.specs.Boot.{code_region}
 use Rattle.board_core.specs.Laws.{ImagesStay, IsWorld, image_in, images_in}
-use Rattle.board_core.specs.Next.{next}
+use Rattle.board_core.specs.After.{after}
 use Rattle.board_core.specs.World.{World}
 use Rattle.board_core.proofs.Frames.{Lower, event_within}
 use Rattle.board_core.proofs.Regions.{event_modules}
@@ -48,18 +48,18 @@ bytes_stay g now a n from size same =
     read now a n k from below ∙ same (a + k) (omega arith) (omega arith) ∙ sym (read g a n k from below))
 
 -- one module's image
-code_from : (w : World) (m : ℕ) → IsWorld w → m < length w.modules → ram_base ≤ (module_at w.modules m).placed.code_base
+code_from : (w : World) (m : ℕ) → IsWorld w → m < length w.parts.modules → ram_base ≤ (module_at w.parts.modules m).placed.code_base
 code_from w m world below =
-    let r = code_region m (module_at w.modules m) in
+    let r = code_region m (module_at w.parts.modules m) in
     let stands = (module_in_memory w m world below).0 in
-    (subst (IsInRam w.memory.bytes) stands.2 (world.memory.in_ram stands.0 r stands.1)).range.from_base
+    (subst (IsInRam w.parts.memory.bytes) stands.2 (world.memory.in_ram stands.0 r stands.1)).range.from_base
 
-image_stays : Lower → (w : World) (e : Event) (m : ℕ) → IsWorld w → m < length w.modules
-    → image_in (next w e).memory (module_at w.modules m) ≡ image_in w.memory (module_at w.modules m)
+image_stays : Lower → (w : World) (e : Event) (m : ℕ) → IsWorld w → m < length w.parts.modules
+    → image_in (after w e).parts.memory (module_at w.parts.modules m) ≡ image_in w.parts.memory (module_at w.parts.modules m)
 image_stays lower w e m world below =
-    let r = module_at w.modules m in
+    let r = module_at w.parts.modules m in
     let within = event_within lower w e world in
-    bytes_stay w.memory (next w e).memory r.placed.code_base (want_of r.preamble).code (code_from w m world below) within.size
+    bytes_stay w.parts.memory (after w e).parts.memory r.placed.code_base (want_of r.preamble).code (code_from w m world below) within.size
     (λ x from to. within.bytes x (code_is_in_no_frame lower.is_ready lower.is_thread w e m x world (below, from, to)))
 
 -- all of them: no image is of a state
@@ -75,7 +75,7 @@ images_in-with_state g ms m state = map-set_same (image_in g) ms m (record (modu
 
 pub images_stay : Lower → ImagesStay
 images_stay lower w e world =
-    let now = (next w e).memory in
-    event_modules w e (λ ms. images_in now ms ≡ images_in now w.modules) refl (λ m state. images_in-with_state now w.modules m state)
-    ∙ maps_agree (image_in now) (image_in w.memory) w.modules
-    (All-from_get_or (λ r. image_in now r ≡ image_in w.memory r) w.modules (module_at [] 0) (λ m below. image_stays lower w e m world below))
+    let now = (after w e).parts.memory in
+    event_modules w e (λ ms. images_in now ms ≡ images_in now w.parts.modules) refl (λ m state. images_in-with_state now w.parts.modules m state)
+    ∙ maps_agree (image_in now) (image_in w.parts.memory) w.parts.modules
+    (All-from_get_or (λ r. image_in now r ≡ image_in w.parts.memory r) w.parts.modules (module_at [] 0) (λ m below. image_stays lower w e m world below))

@@ -26,5 +26,6 @@ pub mod Spared
 pub mod Standing
 pub mod Starting
 pub mod Steps
-pub mod Turns
+pub mod Traces
+pub mod MadeSteps
 pub mod Writes

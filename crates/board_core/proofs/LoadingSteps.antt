@@ -19,7 +19,7 @@ use Rattle.region_guard.specs.Region.{meets}
 use Rattle.region_guard.specs.declared.guard.AddErr.{AddErr}
 use Rattle.region_guard.specs.declared.guard.AddErr.TheVariants.{Full}
 use Rattle.region_guard.specs.declared.region.Region.{Region}
-use Rattle.board_core.specs.Boot.{code_region, contents, memory_with, with_images, with_spots}
+use Rattle.board_core.specs.Boot.{code_region, contents, memory_with, spot_of, with_images, with_spots}
 use Rattle.board_core.specs.Laid.{AreImagesOf, AreLaid}
 use Rattle.board_core.proofs.Loaded.{length_with_images}
 use Rattle.board_core.proofs.ModuleRegions.{each_code}
@@ -76,7 +76,8 @@ images_more ram vs rows i v d below is row_below =
     ∙ ap (λ (rs : List Row). with_images ram (v.items ∷ contents (drop (i + 1) vs)) (map loaded rs)) (drop_more rows i d row_below)
 
 -- a module's spot
-pub spots_more : (rows : List Row) (i : ℕ) (d : Row) (k : Kernel) → i < length rows → with_spots i (map loaded (drop i rows)) k ≡ with_spots (i + 1) (map loaded (drop (i + 1) rows)) (with_spot k i (record { shell = (get_or rows i d).1.code_base + (get_or rows i d).0.shell; data_base = (get_or rows i d).1.data_base; callback = None }))
+pub spots_more : (rows : List Row) (i : ℕ) (d : Row) (k : Kernel) → i < length rows
+    → with_spots i (map loaded (drop i rows)) k ≡ with_spots (i + 1) (map loaded (drop (i + 1) rows)) (with_spot k i (spot_of (loaded (get_or rows i d))))
 spots_more rows i d k below = ap (λ (rs : List Row). with_spots i (map loaded rs) k) (drop_more rows i d below)
 
 -- where all fail, no place passes

@@ -25,7 +25,8 @@ use Rattle.thread_calls.specs.ThreadRows.{resumption}
 use Rattle.board_core.specs.Action.{acted, device_of, resumed_by_name}
 use Rattle.board_core.specs.Laws.{FaultIsKept, IsWorld, OwnersStay, RunnerIsStarted}
 use Rattle.board_core.specs.Owners.{AreOwned, IsStarted}
-use Rattle.board_core.specs.Step.{Parts, after_effect, after_fault, next_effect, stepped, stepped_by, with_hart}
+use Rattle.board_core.specs.Step.{after_effect, after_fault, next_effect, stepped, stepped_by, with_hart}
+use Rattle.board_core.specs.declared.parts.Parts.{Parts}
 use Rattle.board_core.specs.World.{World}
 use Rattle.board_core.proofs.OwnedCalls.{Owned, OwnedAfter, dispatched_owned, found_owned, resumption_owned}
 use Rattle.board_core.proofs.OwnedHalt.{fault_owned}
@@ -50,38 +51,40 @@ thread_started ms k t sound owned below is =
 
 pub runner_is_started : Lower → RunnerIsStarted
 runner_is_started lower w t world runs =
-    thread_started w.modules w.kernel t world.kernel world.owned (running_below lower.is_ready lower.is_thread w.kernel t world.kernel runs)
-    (lower.is_thread w.kernel t world.kernel (lower.is_ready w.kernel t world.kernel runs))
+    thread_started w.parts.modules w.parts.kernel t world.kernel world.owned (running_below lower.is_ready lower.is_thread w.parts.kernel t world.kernel runs)
+    (lower.is_thread w.parts.kernel t world.kernel (lower.is_ready w.parts.kernel t world.kernel runs))
 
 -- a step
 abbrev OwnedParts : Parts → Type 0
 OwnedParts p = AreOwned p.modules p.kernel.objects
 
-effect_owned : Lower → (w : World) (t : ℕ) (e : Effect) → IsWorld w → w.kernel.ready.run ≡ Some t → OwnedParts (after_effect w.kernel w.memory w.modules t e)
+effect_owned : Lower → (w : World) (t : ℕ) (e : Effect) → IsWorld w → w.parts.kernel.ready.run ≡ Some t → OwnedParts (after_effect w.parts t e)
 unfolding after_fault
 effect_owned lower w t (Completes h) world runs = world.owned
 effect_owned lower w t (Stores a n value h) world runs = world.owned
 effect_owned lower w t (Calls h) world runs =
-    let below = running_below lower.is_ready lower.is_thread w.kernel t world.kernel runs in
-    let same : module_of (with_hart w.kernel t h) t ≡ module_of w.kernel t = ap (λ (u : Thread). u.module) (thread-with_hart w.kernel t h world.kernel below) in
-    dispatched_owned w.modules (with_hart w.kernel t h) w.memory t world.owned (subst (IsStarted w.modules) (sym same) (runner_is_started lower w t world runs))
-effect_owned lower w t (Faults cause) world runs = fault_owned lower.no_slots lower.no_grants w.modules w.kernel (module_of w.kernel t) _ world.kernel world.owned
+    let below = running_below lower.is_ready lower.is_thread w.parts.kernel t world.kernel runs in
+    let same : module_of (with_hart w.parts.kernel t h) t ≡ module_of w.parts.kernel t = ap (λ (u : Thread). u.module) (thread-with_hart w.parts.kernel t h world.kernel below) in
+    dispatched_owned w.parts.modules (with_hart w.parts.kernel t h) w.parts.memory t world.owned (subst (IsStarted w.parts.modules) (sym same) (runner_is_started lower w t world runs))
+effect_owned lower w t (Faults cause) world runs = fault_owned lower.no_slots lower.no_grants w.parts.modules w.parts.kernel (module_of w.parts.kernel t) _ world.kernel world.owned
 
-step_owned : Lower → (w : World) (run : Option ℕ) → IsWorld w → w.kernel.ready.run ≡ run → OwnedParts (stepped_by w.kernel w.memory w.modules run)
+step_owned : Lower → (w : World) (run : Option ℕ) → IsWorld w → w.parts.kernel.ready.run ≡ run → OwnedParts (stepped_by w.parts run)
 step_owned lower w None world runs = world.owned
-step_owned lower w (Some t) world runs = effect_owned lower w t (next_effect w.kernel w.memory t) world runs
+step_owned lower w (Some t) world runs = effect_owned lower w t (next_effect w.parts t) world runs
 
 -- an interrupt
-acted_owned : (ms : List Module) (k : Kernel) (g : Memory) (action : Action) (target : List ℕ) (word : ℕ) → Owned ms k → OwnedAfter ms (acted k g action target word)
+acted_owned : (p : Parts) (action : Action) (target : List ℕ) (word : ℕ) → OwnedParts p → OwnedParts (acted p action target word).parts
 unfolding resumed_by_name
-acted_owned ms k g Resume target word before =
-    found_owned ms k g thread_error (position (has_name ThreadKind target) k.objects) (resumption k g) before (λ t _. resumption_owned ms k g t before)
-acted_owned ms k g _ target word before = before
+acted_owned p Resume target word before =
+    let k = p.kernel in
+    found_owned p.modules k p.memory thread_error (position (has_name ThreadKind target) k.objects) (resumption k p.memory) before
+    (λ t _. resumption_owned p.modules k p.memory t before)
+acted_owned p _ target word before = before
 
 pub owners_stay : Lower → OwnersStay
 unfolding stepped
-owners_stay lower w Step world = step_owned lower w w.kernel.ready.run world refl
-owners_stay lower w (Irq d word) world = acted_owned w.modules w.kernel w.memory (device_of w.board d).action (device_of w.board d).target word world.owned
+owners_stay lower w Step world = step_owned lower w w.parts.kernel.ready.run world refl
+owners_stay lower w (Irq d word) world = acted_owned w.parts (device_of w.board d).action (device_of w.board d).target word world.owned
 
 -- a module that is started is one of the table
 started_inside : (ms : List Module) (m : ℕ) → IsStarted ms m → m < length ms
@@ -90,10 +93,10 @@ started_inside ms m started =
 
 pub fault_is_kept : Lower → FaultIsKept
 unfolding after_fault
-fault_is_kept lower w t cause world runs faults =
-    let m = module_of w.kernel t in
-    let inside = started_inside w.modules m (runner_is_started lower w t world runs) in (
+fault_is_kept lower w t cause world faults =
+    let m = module_of w.parts.kernel t in
+    let inside = started_inside w.parts.modules m (runner_is_started lower w t world faults.0) in (
       inside,
-      subst (λ (p : Parts). (module_at p.modules m).state ≡ Faulted (record { thread = t; cause = cause; pc = (thread w.kernel t).hart.pc }))
-          (sym (stepped_is w t (Faults cause) runs faults)) (ap (λ (r : Module). r.state) (get_or-set_same w.modules m _ _ inside)),
+      subst (λ (p : Parts). (module_at p.modules m).state ≡ Faulted (record { thread = t; cause = cause; pc = (thread w.parts.kernel t).hart.pc }))
+          (sym (stepped_is w.parts t (Faults cause) faults.0 faults.1)) (ap (λ (r : Module). r.state) (get_or-set_same w.parts.modules m _ _ inside)),
     )

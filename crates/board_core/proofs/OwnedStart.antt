@@ -1,5 +1,5 @@
 -- A start gives its module the slots that it takes, and booted modules have started modules' slots alone.
-use Rattle.std.proofs.Common.{◌≡◌, ℕ, suc, ◌+◌, ◌<◌, ◌≤◌, Bool, true, false, cond, not, nat_le, nat_lt, List, [], ◌∷◌, length, filter, Some, None, position, slice_set, refl, sym, ap, ◌∙◌, subst, ⊎_elim, arith}
+use Rattle.std.proofs.Common.{◌≡◌, ℕ, suc, ◌+◌, ◌<◌, ◌≤◌, Bool, true, false, cond, not, nat_le, nat_lt, List, [], ◌∷◌, length, filter, Some, None, position, replicate, slice_set, refl, sym, ap, ◌∙◌, subst, ⊎_elim, arith}
 use Rattle.std.proofs.lemmas.Bool.{and_parts, cond-true, cond_both, leb-true, lt-ltb}
 use Rattle.std.proofs.lemmas.List.{get_or-set_other, get_or-set_same, length-set, set-set}
 use Rattle.std.proofs.lemmas.List.Elements.{All-replicate, All-weaker}
@@ -24,8 +24,9 @@ use Rattle.object_grants.specs.Table.{after_allocate, allocated, allocated_at, s
 use Rattle.object_grants.specs.declared.slot.Slot.{Slot}
 use Rattle.object_grants.specs.declared.slot.SlotState.TheVariants.{Free, Live}
 use Rattle.board_core.specs.Boot.{all_started, booted_parts, loaded_modules, loaded_parts, one_started, with_spots}
+use Rattle.board_core.specs.Devices.{fresh_device}
 use Rattle.board_core.specs.Owners.{AreOwned, IsOwned, IsStarted}
-use Rattle.board_core.specs.Step.{Parts}
+use Rattle.board_core.specs.declared.parts.Parts.{Parts}
 use Rattle.board_core.proofs.OwnedCalls.{Owned}
 use Rattle.board_core.proofs.OwnedSlots.{allocated_owned, free_owned, live_owned, same_or_other}
 
@@ -147,6 +148,13 @@ all_count : (i : ℕ) (bs : List BoardModule) (p : Parts) → length (all_starte
 all_count i [] p = refl
 all_count i (b ∷ bs) p = all_count (i + 1) bs (one_started i b p) ∙ one_count i b p
 
+one_devices : (i : ℕ) (b : BoardModule) (p : Parts) → (one_started i b p).devices ≡ p.devices
+one_devices i b p = cond_both b.start _ p (λ (q : Parts). q.devices ≡ p.devices) (λ _. refl) (λ _. refl)
+
+all_devices : (i : ℕ) (bs : List BoardModule) (p : Parts) → (all_started i bs p).devices ≡ p.devices
+all_devices i [] p = refl
+all_devices i (b ∷ bs) p = all_devices (i + 1) bs (one_started i b p) ∙ one_devices i b p
+
 -- before any start all slots are free
 spots_objects : (i : ℕ) (ms : List Module) (k : Kernel) → (with_spots i ms k).objects ≡ k.objects
 spots_objects i [] k = refl
@@ -164,3 +172,7 @@ booted_count b images = all_count 0 b.modules (loaded_parts b images)
 pub booted_owned : (b : Board) (images : List (List ℕ)) → length b.modules ≤ length (loaded_modules b images) → OwnedParts (booted_parts b images)
 unfolding booted_parts
 booted_owned b images enough = all_owned 0 b.modules (loaded_parts b images) (omega (arith, enough)) (loaded_owned b images)
+
+pub booted_devices : (b : Board) (images : List (List ℕ)) → (booted_parts b images).devices ≡ replicate (length b.devices) fresh_device
+unfolding booted_parts
+booted_devices b images = all_devices 0 b.modules (loaded_parts b images)

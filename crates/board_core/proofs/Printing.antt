@@ -81,25 +81,25 @@ object_waits k o =
     (λ x. IfSome x (λ (r : ObjectRow). IsNumbers r.waits))
     (λ _. record { few = omega arith; small = All-nil (λ n. n < 256) }) (λ _. tt)
 
-few_cells : (w : World) → IsWorld w → (i : ℕ) → i < length w.board.shows → length (show_row w.board w.memory w.modules i).cells ≤ 64
+few_cells : (w : World) → IsWorld w → (i : ℕ) → i < length w.board.shows → length (show_row w.board w.parts.memory w.parts.modules i).cells ≤ 64
 few_cells w world i low =
     let s = show_at w.board i in
     let show : IsShow (length w.board.modules) s = world.board.shown i _ low in
-    omega (arith, length-each s.words (λ j. show_cell w.memory (module_at w.modules s.module) (s.offset + 4 * j)), show.few_words)
+    omega (arith, length-each s.words (λ j. show_cell w.parts.memory (module_at w.parts.modules s.module) (s.offset + 4 * j)), show.few_words)
 
 -- the report on a world, where its holders have their numbers and its threads their registers
-pub report_is_printable : (w : World) → IsWorld w → All (λ n. n < 256) w.kernel.ready.held
-    → All (λ (t : ThreadRow). length t.regs ≡ 31) (some (length w.kernel.objects) (thread_row w.kernel)) → IsPrintable (report_of w)
+pub report_is_printable : (w : World) → IsWorld w → All (λ n. n < 256) w.parts.kernel.ready.held
+    → All (λ (t : ThreadRow). length t.regs ≡ 31) (some (length w.parts.kernel.objects) (thread_row w.parts.kernel)) → IsPrintable (report_of w)
 unfolding report_of
 report_is_printable w world small regs = record {
-  held = held_numbers w.kernel.ready world.kernel.scheduler small;
-  ready = ready_numbers w.kernel.ready world.kernel.scheduler;
-  modules = omega (arith, length-each (length w.modules) (module_row w.board w.modules), world.modules, world.board.modules);
-  threads = omega (arith, length-some (length w.kernel.objects) (thread_row w.kernel), world.kernel.slots);
+  held = held_numbers w.parts.kernel.ready world.kernel.scheduler small;
+  ready = ready_numbers w.parts.kernel.ready world.kernel.scheduler;
+  modules = omega (arith, length-each (length w.parts.modules) (module_row w.board w.parts.modules), world.modules, world.board.modules);
+  threads = omega (arith, length-some (length w.parts.kernel.objects) (thread_row w.parts.kernel), world.kernel.slots);
   regs = regs;
-  objects = omega (arith, length-some (length w.kernel.objects) (object_row w.kernel), world.kernel.slots);
-  waits = All-some (λ (r : ObjectRow). IsNumbers r.waits) (length w.kernel.objects) (object_row w.kernel) (object_waits w.kernel);
-  devices = omega (arith, length-each (length w.devices) (device_row w.board w.devices), world.devices, world.board.devices);
-  shows = omega (arith, length-each (length w.board.shows) (show_row w.board w.memory w.modules), world.board.shows);
-  cells = All-each (λ (s : ShowRow). length s.cells ≤ 64) (length w.board.shows) (show_row w.board w.memory w.modules) (few_cells w world);
+  objects = omega (arith, length-some (length w.parts.kernel.objects) (object_row w.parts.kernel), world.kernel.slots);
+  waits = All-some (λ (r : ObjectRow). IsNumbers r.waits) (length w.parts.kernel.objects) (object_row w.parts.kernel) (object_waits w.parts.kernel);
+  devices = omega (arith, length-each (length w.parts.devices) (device_row w.board w.parts.devices), world.devices, world.board.devices);
+  shows = omega (arith, length-each (length w.board.shows) (show_row w.board w.parts.memory w.parts.modules), world.board.shows);
+  cells = All-each (λ (s : ShowRow). length s.cells ≤ 64) (length w.board.shows) (show_row w.board w.parts.memory w.parts.modules) (few_cells w world);
 }

@@ -9,30 +9,41 @@ use Rattle.module_manager.specs.declared.modules.Module.{Module}
 use Rattle.module_manager.specs.declared.modules.ModuleState.{ModuleState}
 use Rattle.board_core.specs.Boot.{code_region, data_region, regions_of}
 use Rattle.board_core.specs.Laws.{RegionsStay}
-use Rattle.board_core.specs.Next.{next}
+use Rattle.board_file.specs.declared.board.Action.{Action}
+use Rattle.board_file.specs.declared.board.Action.TheVariants.{Resume}
+use Rattle.board_core.specs.Action.{acted, device_of, resumed_by_name}
+use Rattle.board_core.specs.After.{after}
 use Rattle.board_core.specs.Step.{after_effect, after_fault, next_effect, stepped, stepped_by}
 use Rattle.board_core.specs.World.{World}
+use Rattle.board_core.specs.declared.parts.Parts.{Parts}
 use Rattle.board_core.proofs.Frames.{Lower, event_within}
 
 -- what holds of the modules, and also with another state of one of them, holds of them after an event
-effect_modules : (w : World) (t : ℕ) (e : Effect) (P : List Module → Type 0) → P w.modules → ((m : ℕ) (state : ModuleState) → P (with_state w.modules m state))
-    → P (after_effect w.kernel w.memory w.modules t e).modules
+effect_modules : (p : Parts) (t : ℕ) (e : Effect) (P : List Module → Type 0) → P p.modules
+    → ((m : ℕ) (state : ModuleState) → P (with_state p.modules m state)) → P (after_effect p t e).modules
 unfolding after_fault
-effect_modules w t (Completes h) P same changed = same
-effect_modules w t (Stores a n value h) P same changed = same
-effect_modules w t (Calls h) P same changed = same
-effect_modules w t (Faults cause) P same changed = changed _ _
+effect_modules p t (Completes h) P same changed = same
+effect_modules p t (Stores a n value h) P same changed = same
+effect_modules p t (Calls h) P same changed = same
+effect_modules p t (Faults cause) P same changed = changed _ _
 
-step_modules : (w : World) (run : Option ℕ) (P : List Module → Type 0) → P w.modules → ((m : ℕ) (state : ModuleState) → P (with_state w.modules m state))
-    → P (stepped_by w.kernel w.memory w.modules run).modules
-step_modules w None P same changed = same
-step_modules w (Some t) P same changed = effect_modules w t (next_effect w.kernel w.memory t) P same changed
+step_modules : (p : Parts) (run : Option ℕ) (P : List Module → Type 0) → P p.modules
+    → ((m : ℕ) (state : ModuleState) → P (with_state p.modules m state)) → P (stepped_by p run).modules
+step_modules p None P same changed = same
+step_modules p (Some t) P same changed = effect_modules p t (next_effect p t) P same changed
 
-pub event_modules : (w : World) (e : Event) (P : List Module → Type 0) → P w.modules → ((m : ℕ) (state : ModuleState) → P (with_state w.modules m state))
-    → P (next w e).modules
+acted_modules : (p : Parts) (action : Action) (target : List ℕ) (word : ℕ) (P : List Module → Type 0) → P p.modules
+    → P (acted p action target word).parts.modules
+unfolding resumed_by_name
+acted_modules p Resume target word P same = same
+acted_modules p _ target word P same = same
+
+pub event_modules : (w : World) (e : Event) (P : List Module → Type 0) → P w.parts.modules
+    → ((m : ℕ) (state : ModuleState) → P (with_state w.parts.modules m state)) → P (after w e).parts.modules
 unfolding stepped
-event_modules w Step P same changed = step_modules w w.kernel.ready.run P same changed
-event_modules w (Irq d word) P same changed = same
+event_modules w Step P same changed = step_modules w.parts w.parts.kernel.ready.run P same changed
+event_modules w (Irq d word) P same changed =
+    acted_modules w.parts (device_of w.board d).action (device_of w.board d).target word P same
 
 -- no region is of a state
 regions_of-with_state : (i : ℕ) (ms : List Module) (m : ℕ) (state : ModuleState) → regions_of i (with_state ms m state) ≡ regions_of i ms
@@ -44,7 +55,7 @@ regions_of-with_state i (r ∷ rs) (suc m) state =
 pub regions_stay : Lower → RegionsStay
 regions_stay lower w e world = (
   (event_within lower w e world).regions,
-  event_modules w e (λ ms. regions_of 0 ms ≡ regions_of 0 w.modules) refl (λ m state. regions_of-with_state 0 w.modules m state),
+  event_modules w e (λ ms. regions_of 0 ms ≡ regions_of 0 w.parts.modules) refl (λ m state. regions_of-with_state 0 w.parts.modules m state),
 )
 
 -- what stands in a list stands after two more

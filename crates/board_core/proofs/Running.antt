@@ -10,8 +10,8 @@ use Rattle.kernel_state.specs.Laws.{RunningIsReady, ReadyIsThread}
 use Rattle.kernel_state.specs.Sound.{IsSound}
 use Rattle.kernel_state.specs.Thread.{blank_thread}
 use Rattle.kernel_state.specs.declared.kernel.Kernel.{Kernel}
-use Rattle.board_core.specs.Step.{after_effect, next_effect, parts, stepped, stepped_by, with_hart}
-use Rattle.board_core.specs.World.{World}
+use Rattle.board_core.specs.Step.{after_effect, next_effect, stepped, stepped_by, with_hart}
+use Rattle.board_core.specs.declared.parts.Parts.{Parts}
 
 -- a thread has a number below 256
 thread_below : (k : Kernel) (t : ℕ) → IsSound k → is_thread k t ≡ true → t < 256
@@ -30,12 +30,11 @@ pub thread-with_hart : (k : Kernel) (t : ℕ) (h : HartState) → IsSound k → 
 thread-with_hart k t h sound below = get_or-set_same k.threads t (record (thread k t) { hart = h }) blank_thread (omega (arith, sound.threads))
 
 -- the step of a thread that runs, by its effect
-pub stepped_is : (w : World) (t : ℕ) (e : Effect) → w.kernel.ready.run ≡ Some t → next_effect w.kernel w.memory t ≡ e
-    → stepped w.kernel w.memory w.modules ≡ after_effect w.kernel w.memory w.modules t e
+pub stepped_is : (p : Parts) (t : ℕ) (e : Effect) → p.kernel.ready.run ≡ Some t → next_effect p t ≡ e → stepped p ≡ after_effect p t e
 unfolding stepped
-stepped_is w t e runs is = ap (stepped_by w.kernel w.memory w.modules) runs ∙ ap (after_effect w.kernel w.memory w.modules t) is
+stepped_is p t e runs is = ap (stepped_by p) runs ∙ ap (after_effect p t) is
 
 -- where no thread runs nothing changes
-pub stepped_idle : (w : World) → w.kernel.ready.run ≡ None → stepped w.kernel w.memory w.modules ≡ parts w.kernel w.memory w.modules
+pub stepped_idle : (p : Parts) → p.kernel.ready.run ≡ None → stepped p ≡ p
 unfolding stepped
-stepped_idle w idle = ap (stepped_by w.kernel w.memory w.modules) idle
+stepped_idle p idle = ap (stepped_by p) idle

@@ -26,7 +26,8 @@ use Rattle.board_core.specs.Boot.{code_region, data_region}
 use Rattle.board_core.specs.Bus.{seen}
 use Rattle.board_core.specs.Frame.{IsOutsideAll, effect_frame, frame, if_any, step_frame}
 use Rattle.board_core.specs.Laws.{CodeIsInNoFrame, FaultKeepsBytes, FaultSparesOthers, IsWorld, OthersDataIsInNoFrame}
-use Rattle.board_core.specs.Step.{Parts, after_fault, next_effect, with_hart}
+use Rattle.board_core.specs.Step.{after_fault, next_effect, with_hart}
+use Rattle.board_core.specs.declared.parts.Parts.{Parts}
 use Rattle.board_core.specs.World.{World}
 use Rattle.board_core.proofs.Effects.{IsAllowed, executed_allowed}
 use Rattle.board_core.proofs.Regions.{module_stands}
@@ -103,47 +104,47 @@ result_stored g m None = none_stored g m
 result_stored g m (Some r) =
     cond_both (may g m Store r.base r.size) (Some r) None (λ (o : Option Range). MayStore g m (if_any o)) (λ yes. one_stored g m r yes) (λ no. none_stored g m)
 
-call_stored : (w : World) (t : ℕ) (h : HartState) → IsWorld w → t < 256 → MayStore w.memory (module_of w.kernel t) (effect_frame w t (Calls h))
+call_stored : (w : World) (t : ℕ) (h : HartState) → IsWorld w → t < 256 → MayStore w.parts.memory (module_of w.parts.kernel t) (effect_frame w.parts t (Calls h))
 call_stored w t h world below =
-    let k = with_hart w.kernel t h in
-    let same : module_of k t ≡ module_of w.kernel t = ap (λ (u : Thread). u.module) (thread-with_hart w.kernel t h world.kernel below) in
-    subst (λ m. MayStore w.memory m (effect_frame w t (Calls h))) same
-    (result_stored w.memory (module_of k t) (option_and_then (λ s. result_range s (arguments h)) (service_of (number_asked h))))
+    let k = with_hart w.parts.kernel t h in
+    let same : module_of k t ≡ module_of w.parts.kernel t = ap (λ (u : Thread). u.module) (thread-with_hart w.parts.kernel t h world.kernel below) in
+    subst (λ m. MayStore w.parts.memory m (effect_frame w.parts t (Calls h))) same
+    (result_stored w.parts.memory (module_of k t) (option_and_then (λ s. result_range s (arguments h)) (service_of (number_asked h))))
 
-effect_stored : (w : World) (t : ℕ) (e : Effect) → IsWorld w → t < 256 → IsAllowed (seen (module_of w.kernel t) w.memory) e
-    → MayStore w.memory (module_of w.kernel t) (effect_frame w t e)
-effect_stored w t (Completes h) world below allowed = none_stored w.memory (module_of w.kernel t)
-effect_stored w t (Stores a n value h) world below allowed = one_stored w.memory (module_of w.kernel t) (record { base = a; size = n }) allowed.1
+effect_stored : (w : World) (t : ℕ) (e : Effect) → IsWorld w → t < 256 → IsAllowed (seen (module_of w.parts.kernel t) w.parts.memory) e
+    → MayStore w.parts.memory (module_of w.parts.kernel t) (effect_frame w.parts t e)
+effect_stored w t (Completes h) world below allowed = none_stored w.parts.memory (module_of w.parts.kernel t)
+effect_stored w t (Stores a n value h) world below allowed = one_stored w.parts.memory (module_of w.parts.kernel t) (record { base = a; size = n }) allowed.1
 effect_stored w t (Calls h) world below allowed = call_stored w t h world below
-effect_stored w t (Faults cause) world below allowed = none_stored w.memory (module_of w.kernel t)
+effect_stored w t (Faults cause) world below allowed = none_stored w.parts.memory (module_of w.parts.kernel t)
 
 -- an address of a region that gives the running thread's module no store is in no frame
-step_spares : RunningIsReady → ReadyIsThread → (w : World) (run : Option ℕ) (r : Region) (x : ℕ) → IsWorld w → w.kernel.ready.run ≡ run
-    → Contains w.memory.regions r → ((t : ℕ) → run ≡ Some t → lets_store (module_of w.kernel t) r ≡ false)
-    → r.base ≤ x → x < r.base + r.size → IsOutsideAll (step_frame w run) x
+step_spares : RunningIsReady → ReadyIsThread → (w : World) (run : Option ℕ) (r : Region) (x : ℕ) → IsWorld w → w.parts.kernel.ready.run ≡ run
+    → Contains w.parts.memory.regions r → ((t : ℕ) → run ≡ Some t → lets_store (module_of w.parts.kernel t) r ≡ false)
+    → r.base ≤ x → x < r.base + r.size → IsOutsideAll (step_frame w.parts run) x
 step_spares is_ready is_thread w None r x world runs stands no_store from to = All-nil (λ (s : Range). IsOutside s.base s.size x)
 step_spares is_ready is_thread w (Some t) r x world runs stands no_store from to =
-    let m = module_of w.kernel t in
-    let below = running_below is_ready is_thread w.kernel t world.kernel runs in
-    let stored = effect_stored w t (next_effect w.kernel w.memory t) world below (executed_allowed (seen m w.memory) (thread w.kernel t).hart) in
-    λ k d within. region_is_outside w.memory m _ _ x r world.memory (stored k d within) stands (no_store t refl) from to
+    let m = module_of w.parts.kernel t in
+    let below = running_below is_ready is_thread w.parts.kernel t world.kernel runs in
+    let stored = effect_stored w t (next_effect w.parts t) world below (executed_allowed (seen m w.parts.memory) (thread w.parts.kernel t).hart) in
+    λ k d within. region_is_outside w.parts.memory m _ _ x r world.memory (stored k d within) stands (no_store t refl) from to
 
 event_spares : RunningIsReady → ReadyIsThread → (w : World) (e : Event) (r : Region) (x : ℕ) → IsWorld w
-    → Contains w.memory.regions r → ((t : ℕ) → w.kernel.ready.run ≡ Some t → lets_store (module_of w.kernel t) r ≡ false)
+    → Contains w.parts.memory.regions r → ((t : ℕ) → w.parts.kernel.ready.run ≡ Some t → lets_store (module_of w.parts.kernel t) r ≡ false)
     → r.base ≤ x → x < r.base + r.size → IsOutsideAll (frame w e) x
-event_spares is_ready is_thread w Step r x world stands no_store from to = step_spares is_ready is_thread w w.kernel.ready.run r x world refl stands no_store from to
+event_spares is_ready is_thread w Step r x world stands no_store from to = step_spares is_ready is_thread w w.parts.kernel.ready.run r x world refl stands no_store from to
 event_spares is_ready is_thread w (Irq d word) r x world stands no_store from to = All-nil (λ (s : Range). IsOutside s.base s.size x)
 
 -- the regions of a module in memory
-pub module_in_memory : (w : World) (m : ℕ) → IsWorld w → m < length w.modules
-    → Contains w.memory.regions (code_region m (module_at w.modules m)) × Contains w.memory.regions (data_region m (module_at w.modules m))
+pub module_in_memory : (w : World) (m : ℕ) → IsWorld w → m < length w.parts.modules
+    → Contains w.parts.memory.regions (code_region m (module_at w.parts.modules m)) × Contains w.parts.memory.regions (data_region m (module_at w.parts.modules m))
 module_in_memory w m world below =
-    subst (λ rs. Contains rs (code_region m (module_at w.modules m)) × Contains rs (data_region m (module_at w.modules m))) (sym world.regions)
-    (module_stands w.modules 0 m m (omega arith) below)
+    subst (λ rs. Contains rs (code_region m (module_at w.parts.modules m)) × Contains rs (data_region m (module_at w.parts.modules m))) (sym world.regions)
+    (module_stands w.parts.modules 0 m m (omega arith) below)
 
 pub code_is_in_no_frame : RunningIsReady → ReadyIsThread → CodeIsInNoFrame
 code_is_in_no_frame is_ready is_thread w e m x world code =
-    event_spares is_ready is_thread w e (code_region m (module_at w.modules m)) x world (module_in_memory w m world code.0).0 (λ t runs. refl) code.1 code.2
+    event_spares is_ready is_thread w e (code_region m (module_at w.parts.modules m)) x world (module_in_memory w m world code.0).0 (λ t runs. refl) code.1 code.2
 
 -- no other module has the bit of one
 other_bit : (m n : ℕ) → n ≢ m → lets_store n (data_region m (module_at [] 0)) ≡ false
@@ -151,17 +152,17 @@ other_bit m n other = ap (λ b. b == 1) (bit_at-pow_other m n other)
 
 pub others_data_is_in_no_frame : RunningIsReady → ReadyIsThread → OthersDataIsInNoFrame
 others_data_is_in_no_frame is_ready is_thread w t m x world runs other own =
-    event_spares is_ready is_thread w Step (data_region m (module_at w.modules m)) x world (module_in_memory w m world own.0).1
-    (λ u runs_too. let same : t ≡ u = cc in subst (λ v. lets_store (module_of w.kernel v) (data_region m (module_at w.modules m)) ≡ false) same (other_bit m (module_of w.kernel t) other))
+    event_spares is_ready is_thread w Step (data_region m (module_at w.parts.modules m)) x world (module_in_memory w m world own.0).1
+    (λ u runs_too. let same : t ≡ u = cc in subst (λ v. lets_store (module_of w.parts.kernel v) (data_region m (module_at w.parts.modules m)) ≡ false) same (other_bit m (module_of w.parts.kernel t) other))
     own.1 own.2
 
 -- a fault
 pub fault_spares_others : HaltSparesThreads → FaultSparesOthers
 unfolding after_fault
-fault_spares_others spares w t u cause world runs faults is other =
-    let kept = spares w.kernel (module_of w.kernel t) u world.kernel is other in
-    subst (λ (p : Parts). (is_thread p.kernel u ≡ true) × (thread p.kernel u ≡ thread w.kernel u)) (sym (stepped_is w t (Faults cause) runs faults)) kept
+fault_spares_others spares w t u cause world faults is other =
+    let kept = spares w.parts.kernel (module_of w.parts.kernel t) u world.kernel is other in
+    subst (λ (p : Parts). (is_thread p.kernel u ≡ true) × (thread p.kernel u ≡ thread w.parts.kernel u)) (sym (stepped_is w.parts t (Faults cause) faults.0 faults.1)) kept
 
 pub fault_keeps_bytes : FaultKeepsBytes
 unfolding after_fault
-fault_keeps_bytes w t cause runs faults = ap (λ (p : Parts). p.memory) (stepped_is w t (Faults cause) runs faults)
+fault_keeps_bytes w t cause faults = ap (λ (p : Parts). p.memory) (stepped_is w.parts t (Faults cause) faults.0 faults.1)

@@ -83,16 +83,18 @@ zeroed_lies sound g ms i laid below =
       memory = sound g (replicate (want_of r.preamble).data_bytes 0) r.placed.data_base laid.memory;
     }
 
-record IsStarted (g : Memory) (ms : List Module) (o : StartOutcome) : Type 0 where
-  laid : AreLaid o.memory o.modules
-  count : length o.modules ≡ length ms
-  images : images_in o.memory o.modules ≡ images_in g ms
+-- modules that lay in memory g lie on, as many, and with their images
+pub record AreStarted (g : Memory) (ms : List Module) (now : Memory) (after : List Module) : Type 0 where
+  pub laid : AreLaid now after
+  pub count : length after ≡ length ms
+  pub images : images_in now after ≡ images_in g ms
 
-is_started : LengthStays → OthersStay → SoundnessStays → (ms : List Module) (k : Kernel) (g : Memory) (i : ℕ) → AreLaid g ms → i < length ms → IsStarted g ms (start_row ms k g i)
+is_started : LengthStays → OthersStay → SoundnessStays → (ms : List Module) (k : Kernel) (g : Memory) (i : ℕ) → AreLaid g ms → i < length ms
+    → AreStarted g ms (start_row ms k g i).memory (start_row ms k g i).modules
 unfolding start_row
 is_started lengths stays sound ms k g i laid below =
     let r = module_at ms i in
-    cond_both (can_start k r) _ _ (IsStarted g ms)
+    cond_both (can_start k r) _ _ (λ (o : StartOutcome). AreStarted g ms o.memory o.modules)
     (λ _. record {
       laid = zeroed_lies sound g ms i laid below;
       count = length-set ms i (record r { state = Started });
@@ -101,9 +103,8 @@ is_started lengths stays sound ms k g i laid below =
     (λ _. record { laid = laid; count = refl; images = refl })
 
 -- the same of what a start came to
-pub after_start : LengthStays → OthersStay → SoundnessStays → (ms after : List Module) (k : Kernel) (g now : Memory) (i : ℕ) → AreLaid g ms → i < length ms → now ≡ (start_row ms k g i).memory → after ≡ (start_row ms k g i).modules → AreLaid now after × (length after ≡ length ms) × (images_in now after ≡ images_in g ms)
+pub after_start : LengthStays → OthersStay → SoundnessStays → (ms after : List Module) (k : Kernel) (g now : Memory) (i : ℕ) → AreLaid g ms
+    → i < length ms → now ≡ (start_row ms k g i).memory → after ≡ (start_row ms k g i).modules → AreStarted g ms now after
 after_start lengths stays sound ms after k g now i laid below memory modules =
-    let P : Memory → List Module → Type 0 = λ h rows. AreLaid h rows × (length rows ≡ length ms) × (images_in h rows ≡ images_in g ms) in
-    let started = is_started lengths stays sound ms k g i laid below in
-    subst (λ (rows : List Module). P now rows) (sym modules)
-    (subst (λ (h : Memory). P h (start_row ms k g i).modules) (sym memory) (started.laid, started.count, started.images))
+    subst (AreStarted g ms now) (sym modules)
+    (subst (λ (h : Memory). AreStarted g ms h (start_row ms k g i).modules) (sym memory) (is_started lengths stays sound ms k g i laid below))

@@ -2,19 +2,18 @@
 use Rattle.std.proofs.Common.{◌≡◌, ◌≢◌, ℕ, ◌+◌, ◌<◌, ◌≤◌, List, length, set, Option, None, Some, refl, sym, ap, ◌∙◌, ⊎_elim}
 use Rattle.std.proofs.lemmas.Bool.{cases_lt}
 use Rattle.std.proofs.lemmas.List.{get_or-set_same, set-get_or, set-set, set_past}
-use Rattle.call_dispatch.specs.Ecall.{dispatched}
 use Rattle.kernel_state.specs.Kernel.{thread}
 use Rattle.kernel_state.specs.Thread.{blank_thread}
 use Rattle.kernel_state.specs.declared.kernel.Kernel.{Kernel}
 use Rattle.kernel_state.specs.declared.thread.Thread.{Thread}
-use Rattle.module_manager.specs.declared.modules.Module.{Module}
 use Rattle.region_guard.specs.Memory.{Memory}
 use Rattle.rv_core.specs.Execute.{Effect, Completes, Stores, Calls, Faults}
 use Rattle.rv_core.specs.Hart.{HartState}
 use Rattle.rv_core.specs.declared.bus.Cause.{Cause}
 use Rattle.rv_core.specs.declared.execute.Out.TheVariants.{Done, Call, Fault}
-use Rattle.board_core.specs.Burst.{Burst, hart_at, out_at, turn_by}
-use Rattle.board_core.specs.Step.{after_call, after_fault, parts, with_hart}
+use Rattle.board_core.specs.Burst.{Burst, Made, hart_at, made_by, out_at}
+use Rattle.board_core.specs.Step.{after_call, after_fault, ran_on, with_hart}
+use Rattle.board_core.specs.declared.parts.Parts.{Parts}
 use Rattle.board_core.proofs.BurstSteps.{Ends}
 
 -- a thread that gets its own registers is as it was
@@ -33,15 +32,11 @@ with_hart-twice k t h now =
     (λ (past : length ts ≤ t). set_past ts t last past ∙ sym (set_past ts t once past)) (cases_lt t (length ts)) in
     ap (λ (us : List Thread). record k { threads = us }) (set-set ts t first last ∙ same)
 
--- parts that are the same, one by one
-pub same_parts : (k k' : Kernel) (g g' : Memory) (ms ms' : List Module) → k ≡ k' → g ≡ g' → ms ≡ ms' → parts k g ms ≡ parts k' g' ms'
-same_parts k k' g g' ms ms' kernel memory modules = cc
-
--- a turn whose burst completed, by how it ended
-pub turn_done : (k : Kernel) (ms : List Module) (t m n : ℕ) (b : Burst) (end : Option Effect) → Ends m n b.done b.hart b.memory end → out_at end ≡ Done
-    → turn_by k ms t b end ≡ record { made = b.done; parts = parts (with_hart k t (hart_at end b.hart)) b.memory ms }
-turn_done k ms t m n b None ends done = refl
-turn_done k ms t m n b (Some e) ends done = absurd (ends.2 done)
+-- steps whose burst completed, by how it ended
+pub made_done : (p : Parts) (t m n : ℕ) (b : Burst) (end : Option Effect) → Ends m n b.done b.hart b.memory end → out_at end ≡ Done
+    → made_by p t b end ≡ record { steps = b.done; parts = ran_on p t (hart_at end b.hart) b.memory }
+made_done p t m n b None ends done = refl
+made_done p t m n b (Some e) ends done = absurd (ends.2 done)
 
 -- a burst that ended before as many instructions as were asked for
 pub ends_before : (m n done : ℕ) (h : HartState) (g : Memory) (end : Option Effect) → Ends m n done h g end → out_at end ≢ Done → done < n
@@ -49,22 +44,23 @@ ends_before m n done h g None ends stops = absurd (stops refl)
 ends_before m n done h g (Some e) ends stops = ends.0
 
 -- whose burst ended at a call
-pub turn_calls : (k : Kernel) (ms : List Module) (t : ℕ) (b : Burst) (end : Option Effect) → out_at end ≡ Call
-    → turn_by k ms t b end ≡ record { made = b.done + 1; parts = after_call ms (dispatched (with_hart k t (hart_at end b.hart)) b.memory t) }
-turn_calls k ms t b None calls = cc
-turn_calls k ms t b (Some (Completes h)) calls = cc
-turn_calls k ms t b (Some (Stores a n value h)) calls = cc
-turn_calls k ms t b (Some (Calls h)) calls =
-    ap (λ (q : Kernel). record { made = b.done + 1; parts = after_call ms (dispatched q b.memory t) }) (with_hart-twice k t b.hart h)
-turn_calls k ms t b (Some (Faults cause)) calls = cc
+pub made_calls : (p : Parts) (t : ℕ) (b : Burst) (end : Option Effect) → out_at end ≡ Call
+    → made_by p t b end ≡ record { steps = b.done + 1; parts = after_call (ran_on p t (hart_at end b.hart) b.memory) t }
+made_calls p t b None calls = cc
+made_calls p t b (Some (Completes h)) calls = cc
+made_calls p t b (Some (Stores a n value h)) calls = cc
+made_calls p t b (Some (Calls h)) calls =
+    ap (λ (k : Kernel). record { steps = b.done + 1; parts = after_call (record p { kernel = k; memory = b.memory }) t })
+    (with_hart-twice p.kernel t b.hart h)
+made_calls p t b (Some (Faults cause)) calls = cc
 
 -- whose burst ended at a fault
-pub turn_faults : (k : Kernel) (ms : List Module) (t : ℕ) (b : Burst) (end : Option Effect) (cause : Cause) → out_at end ≡ Fault cause
-    → turn_by k ms t b end ≡ record { made = b.done + 1; parts = after_fault (with_hart k t (hart_at end b.hart)) b.memory ms t cause }
-turn_faults k ms t b None cause faults = cc
-turn_faults k ms t b (Some (Completes h)) cause faults = cc
-turn_faults k ms t b (Some (Stores a n value h)) cause faults = cc
-turn_faults k ms t b (Some (Calls h)) cause faults = cc
-turn_faults k ms t b (Some (Faults c)) cause faults =
+pub made_faults : (p : Parts) (t : ℕ) (b : Burst) (end : Option Effect) (cause : Cause) → out_at end ≡ Fault cause
+    → made_by p t b end ≡ record { steps = b.done + 1; parts = after_fault (ran_on p t (hart_at end b.hart) b.memory) t cause }
+made_faults p t b None cause faults = cc
+made_faults p t b (Some (Completes h)) cause faults = cc
+made_faults p t b (Some (Stores a n value h)) cause faults = cc
+made_faults p t b (Some (Calls h)) cause faults = cc
+made_faults p t b (Some (Faults c)) cause faults =
     let same : c ≡ cause = cc in
-    ap (λ (x : Cause). record { made = b.done + 1; parts = after_fault (with_hart k t b.hart) b.memory ms t x }) same
+    ap (λ (x : Cause). record { steps = b.done + 1; parts = after_fault (ran_on p t b.hart b.memory) t x }) same

@@ -8,27 +8,46 @@ use Rattle.board_file.specs.declared.board.Action.TheVariants.{Resume}
 use Rattle.board_file.specs.declared.board.Board.{Board}
 use Rattle.board_file.specs.declared.board.BoardDevice.{BoardDevice}
 use Rattle.object_grants.specs.Slot.{has_name}
-use Rattle.region_guard.specs.Memory.{Memory}
-use Rattle.kernel_state.specs.Outcome.{Outcome, answered, found}
+use Rattle.kernel_state.specs.Outcome.{Outcome, found}
 use Rattle.kernel_state.specs.declared.answer.Answer.{Answer}
 use Rattle.kernel_state.specs.declared.answer.Answer.TheVariants.{Code}
-use Rattle.kernel_state.specs.declared.kernel.Kernel.{Kernel}
 use Rattle.thread_calls.specs.ThreadRows.{resumption}
+use Rattle.board_core.specs.Devices.{noted}
+use Rattle.board_core.specs.Step.{with_outcome}
+use Rattle.board_core.specs.declared.parts.Parts.{Parts}
 
--- the status of an action
+-- what an action leaves, and its status
+pub record Acted : Type 0 where
+  pub parts : Parts
+  pub status : ℕ
+
+-- the change of a service is an action, and its answer the status
 abbrev pub status_of : Answer → ℕ
 status_of (Code c) = c
 status_of _ = 0
 
+abbrev pub by_service : Parts → Outcome → Acted
+by_service p o = record { parts = with_outcome p o; status = status_of o.answer }
+
 -- the lowest thread of a name is resumed
-unfoldable pub resumed_by_name : Kernel → Memory → List ℕ → Outcome
-resumed_by_name k g name = found k g thread_error (position (has_name Thread name) k.objects) (resumption k g)
+unfoldable pub resumed_by_name : Parts → List ℕ → Acted
+resumed_by_name p name =
+    let k = p.kernel in
+    let thread = position (has_name Thread name) k.objects in
+    by_service p (found k p.memory thread_error thread (resumption k p.memory))
 
 -- no other action is made yet
-abbrev pub acted : Kernel → Memory → Action → List ℕ → ℕ → Outcome
-acted k g Resume target word = resumed_by_name k g target
-acted k g _ target word = answered k g feature_not_enabled
+abbrev pub acted : Parts → Action → List ℕ → ℕ → Acted
+acted p Resume target word = resumed_by_name p target
+acted p _ target word = record { parts = p; status = feature_not_enabled }
 
 -- a device of the board
 abbrev pub device_of : Board → ℕ → BoardDevice
-device_of b d = slice_index_or b.devices d (record { name = []; action = Resume; target = []; script = [] })
+device_of b d =
+    slice_index_or b.devices d (record { name = []; action = Resume; target = []; script = [] })
+
+-- an interrupt makes the action of its device, which keeps the status
+abbrev pub interrupted : Board → Parts → ℕ → ℕ → Parts
+interrupted b p d word =
+    let o = acted p (device_of b d).action (device_of b d).target word in
+    record o.parts { devices = noted o.parts.devices d o.status }

@@ -1,4 +1,5 @@
--- The board as it is booted: its modules lie in RAM, which is zero elsewhere, and those that are to start were started.
+-- The board as it is booted: its modules lie in RAM, which is zero elsewhere, and those that are to
+-- start were started.
 use Rattle.std.specs.Prelude.{◌≡◌, ⊤, ℕ, ◌+◌, ◌^◌, List, [], ◌∷◌, length, map, replicate, zip, Option, None, Some, Result, Ok, Err, if◌then◌else◌, Vec}
 use Rattle.std.specs.declared.alloc.Global.{Global}
 use Rattle.module_preamble.specs.Preamble.{preamble}
@@ -17,13 +18,15 @@ use Rattle.board_file.specs.declared.board.Board.{Board}
 use Rattle.board_file.specs.declared.board.BoardModule.{BoardModule}
 use Rattle.kernel_state.specs.Kernel.{blank_kernel, with_spot}
 use Rattle.kernel_state.specs.declared.kernel.Kernel.{Kernel}
+use Rattle.kernel_state.specs.declared.spot.Spot.{Spot}
 use Rattle.module_manager.specs.Modules.{loaded}
 use Rattle.module_manager.specs.Start.{StartOutcome, start_row}
 use Rattle.module_manager.specs.declared.modules.Module.{Module}
-use Rattle.board_core.specs.Step.{Parts}
-use Rattle.board_core.specs.World.{World, fresh_device}
+use Rattle.board_core.specs.Devices.{fresh_device}
+use Rattle.board_core.specs.World.{World}
 use Rattle.board_core.specs.declared.boot.BootErr.{BootErr}
 use Rattle.board_core.specs.declared.boot.BootErr.TheVariants.{NoMemory, Image, NoRoom}
+use Rattle.board_core.specs.declared.parts.Parts.{Parts}
 
 -- the bytes of images
 abbrev pub contents : List (Vec ℕ Global) → List (List ℕ)
@@ -78,12 +81,23 @@ placed_at (Err i) = []
 abbrev pub loaded_modules : Board → List (List ℕ) → List Module
 loaded_modules b images = map loaded (zip (map words_of images) (placed_at (places b images)))
 
--- the regions of modules, those of module i first: its code can be fetched and loaded, its data loaded and stored, by it alone
+-- the regions of modules, those of module i first: its code can be fetched and loaded, its data loaded
+-- and stored, by it alone
 abbrev pub code_region : ℕ → Module → Region
-code_region i m = record { base = m.placed.code_base; size = (want_of m.preamble).code; rights = Code; who = 2 ^ i }
+code_region i m = record {
+  base = m.placed.code_base;
+  size = (want_of m.preamble).code;
+  rights = Code;
+  who = 2 ^ i;
+}
 
 abbrev pub data_region : ℕ → Module → Region
-data_region i m = record { base = m.placed.data_base; size = (want_of m.preamble).data_bytes; rights = ReadWrite; who = 2 ^ i }
+data_region i m = record {
+  base = m.placed.data_base;
+  size = (want_of m.preamble).data_bytes;
+  rights = ReadWrite;
+  who = 2 ^ i;
+}
 
 abbrev pub regions_of : ℕ → List Module → List Region
 regions_of i [] = []
@@ -93,37 +107,50 @@ regions_of i (m ∷ ms) = code_region i m ∷ data_region i m ∷ regions_of (i 
 abbrev pub with_images : List ℕ → List (List ℕ) → List Module → List ℕ
 with_images ram [] ms = ram
 with_images ram (image ∷ images) [] = ram
-with_images ram (image ∷ images) (m ∷ ms) = with_images (loaded_at ram image m.placed.code_base) images ms
+with_images ram (image ∷ images) (m ∷ ms) =
+    with_images (loaded_at ram image m.placed.code_base) images ms
 
 -- memory with the images, in which each module has its regions
 abbrev pub memory_with : ℕ → List (List ℕ) → List Module → Memory
-memory_with ram images ms = record { regions = regions_of 0 ms; bytes = with_images (replicate ram 0) images ms }
+memory_with ram images ms = record {
+  regions = regions_of 0 ms;
+  bytes = with_images (replicate ram 0) images ms;
+}
 
 abbrev pub loaded_memory : Board → List (List ℕ) → Memory
 loaded_memory b images = memory_with b.ram images (loaded_modules b images)
 
--- each module has its spot in the kernel, those from module i on
+-- each module has its spot in the kernel, those from module i on; it has no callback thread yet
+abbrev pub spot_of : Module → Spot
+spot_of m = record {
+  shell = m.placed.code_base + m.preamble.shell;
+  data_base = m.placed.data_base;
+  callback = None;
+}
+
 abbrev pub with_spots : ℕ → List Module → Kernel → Kernel
 with_spots i [] k = k
-with_spots i (m ∷ ms) k =
-    with_spots (i + 1) ms
-    (with_spot k i (record { shell = m.placed.code_base + m.preamble.shell; data_base = m.placed.data_base; callback = None }))
+with_spots i (m ∷ ms) k = with_spots (i + 1) ms (with_spot k i (spot_of m))
 
--- the kernel, the memory and the modules, as one
-abbrev pub parts : Kernel → Memory → List Module → Parts
-parts k g ms = record { kernel = k; memory = g; modules = ms }
-
--- a board's modules are loaded, and none is started yet
+-- a board's modules are loaded, none is started yet, and nothing was taken of a device
 abbrev pub loaded_parts : Board → List (List ℕ) → Parts
-loaded_parts b images =
-    parts (with_spots 0 (loaded_modules b images) blank_kernel) (loaded_memory b images) (loaded_modules b images)
+loaded_parts b images = record {
+  kernel = with_spots 0 (loaded_modules b images) blank_kernel;
+  memory = loaded_memory b images;
+  modules = loaded_modules b images;
+  devices = replicate (length b.devices) fresh_device;
+}
+
+-- the start of module m, and what it leaves
+abbrev pub start_of : Parts → ℕ → StartOutcome
+start_of p m = start_row p.modules p.kernel p.memory m
+
+abbrev pub after_start : Parts → StartOutcome → Parts
+after_start p o = record p { kernel = o.kernel; memory = o.memory; modules = o.modules }
 
 -- the modules from module i on that are to start are started, in board order
-abbrev pub after_start : StartOutcome → Parts
-after_start o = parts o.kernel o.memory o.modules
-
 abbrev pub one_started : ℕ → BoardModule → Parts → Parts
-one_started i m p = if m.start then after_start (start_row p.modules p.kernel p.memory i) else p
+one_started i m p = if m.start then after_start p (start_of p i) else p
 
 abbrev pub all_started : ℕ → List BoardModule → Parts → Parts
 all_started i [] p = p
@@ -134,13 +161,4 @@ booted_parts b images = all_started 0 b.modules (loaded_parts b images)
 
 -- the world of a booted board: no event was made
 unfoldable pub booted : Board → List (List ℕ) → World
-booted b images = let p = booted_parts b images in record {
-  board = b;
-  kernel = p.kernel;
-  memory = p.memory;
-  modules = p.modules;
-  devices = replicate (length b.devices) fresh_device;
-  steps = 0;
-  irqs = 0;
-  ended = [];
-}
+booted b images = record { board = b; parts = booted_parts b images; steps = 0; irqs = 0 }

@@ -16,4 +16,5 @@ seen m g = record {
 -- a store that the guard allows puts its bytes and changes no other, nor what may be used
 abbrev pub StoresItsBytes : Type 0
 StoresItsBytes =
-    (g : Memory) (m a n value : ℕ) → IsSound g → 0 < n → may g m Store a n ≡ true → IsStored (seen m g) (seen m (with_number g a n value)) a n value
+    (g : Memory) (m a n value : ℕ) → IsSound g → 0 < n → may g m Store a n ≡ true
+    → IsStored (seen m g) (seen m (with_number g a n value)) a n value

@@ -2,13 +2,15 @@ pub mod Action
 pub mod Boot
 pub mod Burst
 pub mod Bus
+pub mod Devices
 pub mod Frame
 pub mod Laid
 pub mod Laws
 pub mod Machine
-pub mod Next
+pub mod After
 pub mod Owners
 pub mod Report
 pub mod Run
 pub mod Step
+pub mod Trace
 pub mod World

@@ -1,5 +1,5 @@
 -- What a report says of the board.
-use Rattle.std.specs.Prelude.{ℕ, zero, suc, ◌+◌, ◌*◌, ◌==◌, nat_le, false, List, [], ◌∷◌, ◌++◌, length, drop, count_by, Option, None, Some, if◌then◌else◌}
+use Rattle.std.specs.Prelude.{ℕ, zero, suc, ◌+◌, ◌*◌, nat_le, false, List, [], ◌∷◌, ◌++◌, length, drop, Option, None, Some, if◌then◌else◌}
 use Rattle.std.specs.List.{slice_index_or}
 use Rattle.std.specs.Option.{option_map, option_to_list}
 use Rattle.tx_types.specs.State.{state_number}
@@ -25,8 +25,9 @@ use Rattle.object_grants.specs.Table.{slot}
 use Rattle.region_guard.specs.Memory.{Memory}
 use Rattle.rv_core.specs.Cause.{cause_number}
 use Rattle.board_core.specs.Action.{device_of}
-use Rattle.board_core.specs.World.{World, WaitEnd, End, Satisfied, TimedOut, Aborted, Deleted, Gone, device_at}
-use Rattle.board_core.specs.declared.device.Device.{Device}
+use Rattle.board_core.specs.Devices.{device_at}
+use Rattle.board_core.specs.World.{World}
+use Rattle.board_core.specs.declared.devices.Device.{Device}
 
 -- what is said of each number below n, from 0 on
 unfoldable pub each : {R : Type 0} → ℕ → (ℕ → R) → List R
@@ -38,34 +39,17 @@ unfoldable pub some : {R : Type 0} → ℕ → (ℕ → Option R) → List R
 some zero row = []
 some (suc n) row = some n row ++ option_to_list (row n)
 
--- the numbers of the ways in which a wait ends
-abbrev pub end_number : End → ℕ
-end_number Satisfied = 0
-end_number TimedOut = 1
-end_number Aborted = 2
-end_number Deleted = 3
-end_number Gone = 4
-
--- how many waits ended in a way; and all totals, where no wait is pending, as none begins yet
-abbrev pub how_many : End → List WaitEnd → ℕ
-how_many how es = count_by (λ (e : WaitEnd). end_number e.how == end_number how) es
-
-abbrev pub totals_of : List WaitEnd → Totals
-totals_of es = record {
-  begun = length es;
-  satisfied = how_many Satisfied es;
-  timed_out = how_many TimedOut es;
-  aborted = how_many Aborted es;
-  deleted = how_many Deleted es;
-  gone = how_many Gone es;
-}
+-- no wait begins yet
+abbrev pub no_waits : Totals
+no_waits = record { begun = 0; satisfied = 0; timed_out = 0; aborted = 0; deleted = 0; gone = 0 }
 
 -- a module: its name, its state and its fault; no request is queued yet
 abbrev pub fault_row : Fault → FaultRow
 fault_row f = record { thread = f.thread; cause = cause_number f.cause; pc = f.pc }
 
 abbrev pub board_module : Board → ℕ → BoardModule
-board_module b m = slice_index_or b.modules m (record { name = []; image = []; start = false })
+board_module b m =
+    slice_index_or b.modules m (record { name = []; image = []; start = false })
 
 unfoldable pub module_row : Board → List Module → ℕ → ModuleRow
 module_row b ms m = record {
@@ -109,32 +93,38 @@ device_row b ds d = record {
 -- the word at an offset of a module's data region; none where it isn't in it
 unfoldable pub show_cell : Memory → Module → ℕ → Option ℕ
 show_cell g m at =
-    if nat_le (at + 4) (want_of m.preamble).data_bytes then Some (word_at g (m.placed.data_base + at)) else None
+    if nat_le (at + 4) (want_of m.preamble).data_bytes
+    then Some (word_at g (m.placed.data_base + at))
+    else None
 
 -- a show: words of a module's data region one after another
 abbrev pub show_at : Board → ℕ → BoardShow
 show_at b i = slice_index_or b.shows i (record { «module» = 0; offset = 0; words = 0 })
 
 abbrev pub show_cells : Memory → List Module → BoardShow → List (Option ℕ)
-show_cells g ms s = each s.words (λ j. show_cell g (module_at ms s.module) (s.offset + 4 * j))
+show_cells g ms s =
+    each s.words (λ j. show_cell g (module_at ms s.module) (s.offset + 4 * j))
 
 abbrev pub show_row : Board → Memory → List Module → ℕ → ShowRow
 show_row b g ms i = record { show = i; cells = show_cells g ms (show_at b i) }
 
--- the whole report; no clock runs yet
+-- the whole report; no clock runs yet, and no wait begins
 unfoldable pub report_of : World → Report
-report_of w = record {
-  steps = w.steps;
-  irqs = w.irqs;
-  ticks = 0;
-  clock = 0;
-  running = w.kernel.ready.run;
-  held = w.kernel.ready.held;
-  ready = w.kernel.ready.order;
-  totals = totals_of w.ended;
-  modules = each (length w.modules) (module_row w.board w.modules);
-  threads = some (length w.kernel.objects) (thread_row w.kernel);
-  objects = some (length w.kernel.objects) (object_row w.kernel);
-  devices = each (length w.devices) (device_row w.board w.devices);
-  shows = each (length w.board.shows) (show_row w.board w.memory w.modules);
-}
+report_of w =
+    let p = w.parts in
+    let k = p.kernel in
+    record {
+      steps = w.steps;
+      irqs = w.irqs;
+      ticks = 0;
+      clock = 0;
+      running = k.ready.run;
+      held = k.ready.held;
+      ready = k.ready.order;
+      totals = no_waits;
+      modules = each (length p.modules) (module_row w.board p.modules);
+      threads = some (length k.objects) (thread_row k);
+      objects = some (length k.objects) (object_row k);
+      devices = each (length p.devices) (device_row w.board p.devices);
+      shows = each (length w.board.shows) (show_row w.board p.memory p.modules);
+    }

@@ -1,5 +1,6 @@
--- One step of the board: the running thread's next instruction, with its whole call where that is an ECALL.
-use Rattle.std.specs.Prelude.{ℕ, List, Option, None, Some}
+-- One step of the board: the running thread's next instruction, with its whole call where that is
+-- an ECALL.
+use Rattle.std.specs.Prelude.{ℕ, Option, None, Some}
 use Rattle.rv_core.specs.Execute.{Effect, Completes, Stores, Calls, Faults, executed}
 use Rattle.rv_core.specs.Hart.{HartState}
 use Rattle.rv_core.specs.declared.bus.Cause.{Cause}
@@ -10,49 +11,52 @@ use Rattle.kernel_state.specs.declared.kernel.Kernel.{Kernel}
 use Rattle.call_dispatch.specs.Ecall.{dispatched}
 use Rattle.module_manager.specs.Halt.{halted}
 use Rattle.module_manager.specs.Modules.{with_state}
-use Rattle.module_manager.specs.declared.modules.Module.{Module}
+use Rattle.module_manager.specs.declared.modules.Fault.{Fault}
 use Rattle.module_manager.specs.declared.modules.ModuleState.TheVariants.{Faulted}
 use Rattle.board_core.specs.Bus.{seen}
-
--- the kernel, the memory and the modules, which an event may change together
-pub record Parts : Type 0 where
-  pub kernel : Kernel
-  pub memory : Memory
-  pub modules : List Module
-
-abbrev pub parts : Kernel → Memory → List Module → Parts
-parts k g ms = record { kernel = k; memory = g; modules = ms }
+use Rattle.board_core.specs.declared.parts.Parts.{Parts}
 
 -- a thread's registers are set
 abbrev pub with_hart : Kernel → ℕ → HartState → Kernel
 with_hart k t h = with_thread k t (record (thread k t) { hart = h })
 
--- the effect of the instruction at a thread's pc, which its module must be able to fetch
-abbrev pub next_effect : Kernel → Memory → ℕ → Effect
-next_effect k g t = executed (seen (module_of k t) g) (thread k t).hart
+-- a thread ran on, to these registers and this memory
+abbrev pub ran_on : Parts → ℕ → HartState → Memory → Parts
+ran_on p t h g = record p { kernel = with_hart p.kernel t h; memory = g }
 
--- a call: pc is past it, and the service that it asks for is served
-abbrev pub after_call : List Module → Outcome → Parts
-after_call ms o = record { kernel = o.kernel; memory = o.memory; modules = ms }
+-- the effect of the instruction at a thread's pc, which its module must be able to fetch
+abbrev pub next_effect : Parts → ℕ → Effect
+next_effect p t = executed (seen (module_of p.kernel t) p.memory) (thread p.kernel t).hart
+
+-- what a service leaves
+abbrev pub with_outcome : Parts → Outcome → Parts
+with_outcome p o = record p { kernel = o.kernel; memory = o.memory }
+
+-- a thread whose pc is past its call: the service that it asks for is served
+abbrev pub after_call : Parts → ℕ → Parts
+after_call p t = with_outcome p (dispatched p.kernel p.memory t)
 
 -- an instruction that can't be executed halts its module, which keeps the cause
-unfoldable pub after_fault : Kernel → Memory → List Module → ℕ → Cause → Parts
-after_fault k g ms t cause = record {
-  kernel = halted k (module_of k t);
-  memory = g;
-  modules = with_state ms (module_of k t) (Faulted (record { thread = t; cause = cause; pc = (thread k t).hart.pc }));
-}
+unfoldable pub after_fault : Parts → ℕ → Cause → Parts
+after_fault p t cause =
+    let k = p.kernel in
+    let m = module_of k t in
+    let fault : Fault = record { thread = t; cause = cause; pc = (thread k t).hart.pc } in
+    record p {
+      kernel = halted k m;
+      modules = with_state p.modules m (Faulted fault);
+    }
 
-abbrev pub after_effect : Kernel → Memory → List Module → ℕ → Effect → Parts
-after_effect k g ms t (Completes h) = record { kernel = with_hart k t h; memory = g; modules = ms }
-after_effect k g ms t (Stores a n value h) = record { kernel = with_hart k t h; memory = with_number g a n value; modules = ms }
-after_effect k g ms t (Calls h) = after_call ms (dispatched (with_hart k t h) g t)
-after_effect k g ms t (Faults cause) = after_fault k g ms t cause
+abbrev pub after_effect : Parts → ℕ → Effect → Parts
+after_effect p t (Completes h) = ran_on p t h p.memory
+after_effect p t (Stores a n value h) = ran_on p t h (with_number p.memory a n value)
+after_effect p t (Calls h) = after_call (ran_on p t h p.memory) t
+after_effect p t (Faults cause) = after_fault p t cause
 
 -- where no thread runs nothing changes
-abbrev pub stepped_by : Kernel → Memory → List Module → Option ℕ → Parts
-stepped_by k g ms None = record { kernel = k; memory = g; modules = ms }
-stepped_by k g ms (Some t) = after_effect k g ms t (next_effect k g t)
+abbrev pub stepped_by : Parts → Option ℕ → Parts
+stepped_by p None = p
+stepped_by p (Some t) = after_effect p t (next_effect p t)
 
-unfoldable pub stepped : Kernel → Memory → List Module → Parts
-stepped k g ms = stepped_by k g ms k.ready.run
+unfoldable pub stepped : Parts → Parts
+stepped p = stepped_by p p.kernel.ready.run

@@ -2,43 +2,61 @@
 //!
 //! Only `resume` is built: each other action answers FEATURE_NOT_ENABLED and changes nothing. The
 //! word isn't used, and what is kept of the device is written elsewhere.
-ghost use Rattle.std.specs.Prelude.{◌≡◌};
+ghost use Rattle.std.specs.Prelude.{◌≡◌, ◌<◌, length};
 ghost use Rattle.kernel_state.specs.Sound.{IsSound};
-ghost use Rattle.board_core.specs.Action.{acted, resumed_by_name, status_of};
+ghost use Rattle.board_core.specs.Action.{acted, interrupted, resumed_by_name};
+ghost use Rattle.board_core.specs.Devices.{device_at};
 
-use board_file::Action;
-use kernel_state::Kernel;
-use region_guard::Guard;
+use crate::parts::Parts;
+use board_file::{Action, Board};
+use board_values::DevNo;
 use thread_calls::resume_object;
 use tx_types::{Code, Kind, Name};
 
-/// Makes the action of a device, on the object or module of a name, and gives its status.
-/// FEATURE_NOT_ENABLED where the action isn't built.
-pub(crate) fn act(k: &mut Kernel, g: &mut Guard, action: Action, target: &Name, word: u32) -> Code
-    requires { IsSound k.old }
-    ensures kernel { k.new ≡ (acted k.old g.old action target.now word).kernel }
-    ensures memory { g.new ≡ (acted k.old g.old action target.now word).memory }
-    ensures status { result ≡ status_of (acted k.old g.old action target.now word).answer }
-    ensures sound { IsSound k.new }
-{
-    let _ = word;
-    match action {
-        Action::Resume => resume_by_name(k, g, target),
-        _ => Code::new(0xFF),
+impl Parts {
+    /// An interrupt of a device of the board with a word: its action is made, and the device keeps the
+    /// status.
+    pub(crate) fn interrupt(&mut self, board: &Board, d: DevNo, word: u32)
+        requires sound { IsSound self.old.kernel }
+        requires board { d < length board.now.devices }
+        requires device { d < length self.old.devices }
+        requires room { (device_at self.old.devices d).taken < 65536 }
+        ensures parts { self.new ≡ interrupted board.now self.old d word }
+        ensures sound { IsSound self.new.kernel }
+    {
+        let device = &board.devices.items()[d.number() as usize];
+        let status = self.act(device.action, &device.target, word);
+        self.devices.note(d, status);
     }
-}
 
-/// Resumes the lowest thread of a name. THREAD_ERROR where there is none.
-#[tactic(auto, unfolding(crate::specs::Action::resumed_by_name))]
-fn resume_by_name(k: &mut Kernel, g: &mut Guard, name: &Name) -> Code
-    requires { IsSound k.old }
-    ensures kernel { k.new ≡ (resumed_by_name k.old g.old name.now).kernel }
-    ensures memory { g.new ≡ (resumed_by_name k.old g.old name.now).memory }
-    ensures status { result ≡ status_of (resumed_by_name k.old g.old name.now).answer }
-    ensures sound { IsSound k.new }
-{
-    match k.objects.find(Kind::Thread, name) {
-        Some(t) => resume_object(k, g, t),
-        None => Code::THREAD_ERROR,
+    /// Makes the action of a device, on the object or module of a name, and gives its status.
+    /// FEATURE_NOT_ENABLED where the action isn't built.
+    fn act(&mut self, action: Action, target: &Name, word: u32) -> Code
+        requires { IsSound self.old.kernel }
+        ensures parts { self.new ≡ (acted self.old action target.now word).parts }
+        ensures status { result ≡ (acted self.old action target.now word).status }
+        ensures devices { self.new.devices ≡ self.old.devices }
+        ensures sound { IsSound self.new.kernel }
+    {
+        let _ = word;
+        match action {
+            Action::Resume => self.resume_by_name(target),
+            _ => Code::new(0xFF),
+        }
+    }
+
+    /// Resumes the lowest thread of a name. THREAD_ERROR where there is none.
+    #[tactic(auto, unfolding(crate::specs::Action::resumed_by_name))]
+    fn resume_by_name(&mut self, name: &Name) -> Code
+        requires { IsSound self.old.kernel }
+        ensures parts { self.new ≡ (resumed_by_name self.old name.now).parts }
+        ensures status { result ≡ (resumed_by_name self.old name.now).status }
+        ensures devices { self.new.devices ≡ self.old.devices }
+        ensures sound { IsSound self.new.kernel }
+    {
+        match self.kernel.objects.find(Kind::Thread, name) {
+            Some(t) => resume_object(&mut self.kernel, &mut self.memory, t),
+            None => Code::THREAD_ERROR,
+        }
     }
 }

@@ -1,25 +1,24 @@
 //! How a board is booted: its modules are loaded, and those that are to start are started.
 //!
 //! All memory that its machine ever needs is taken here.
-ghost use Rattle.std.specs.Prelude.{◌≡◌, ◌≤◌, ◌<◌, [], length, IfOk, IfErr, None, replicate};
+ghost use Rattle.std.specs.Prelude.{◌≡◌, ◌≤◌, ◌<◌, [], length, IfOk, IfErr, None};
 ghost use Rattle.kernel_state.specs.Sound.{IsSound};
 ghost use Rattle.board_file.specs.Rules.{IsBoard};
-ghost use Rattle.board_core.specs.Boot.{Refuses, all_started, boot_refusal, booted_parts, contents, loaded_parts, one_started, parts};
+ghost use Rattle.board_core.specs.Boot.{Refuses, after_start, all_started, boot_refusal, booted_parts, contents, loaded_parts, one_started, start_of};
 ghost use Rattle.board_core.specs.Laid.{AreLaid};
 ghost use Rattle.board_core.specs.Laws.{images_in};
-ghost use Rattle.board_core.specs.World.{fresh_device};
 
-use crate::device::Device;
+use crate::devices::Devices;
 use crate::loading::{kernel_with, memory_with};
 use crate::machine::Machine;
+use crate::parts::Parts;
 use crate::placing::place_modules;
 use board_file::{Board, BoardModule};
 use event_log::History;
 use flat_ram::a_write_changes_its_range_alone;
-use kernel_state::Kernel;
 use module_manager::Manager;
 use module_preamble::PreErr;
-use region_guard::{Guard, a_write_changes_its_bytes_alone};
+use region_guard::a_write_changes_its_bytes_alone;
 use std::alloc::{AllocError, Global};
 use tx_types::{Code, ModNo, NoMemory};
 
@@ -54,106 +53,101 @@ impl From<NoMemory> for BootErr {
     }
 }
 
-/// The parts of a machine that modules change.
-#[derive(Drop)]
-struct Inside {
-    kernel: Kernel,
-    guard: Guard,
-    modules: Manager,
-}
-
-/// A board's modules as they are loaded, none started.
-fn load_modules(alloc: Global, board: &Board, images: &[Vec<u8>]) -> Result<Inside, BootErr>
+/// A board's parts as its modules are loaded: none is started, and nothing was taken of a device.
+fn load(alloc: Global, board: &Board, images: &[Vec<u8>]) -> Result<Parts, BootErr>
     requires board { IsBoard board.now }
     requires images { length images.now ≡ length board.now.modules }
-    ensures parts { IfOk result (λ p. parts p.kernel p.guard p.modules ≡ loaded_parts board.now (contents images.now)) }
+    ensures parts { IfOk result (λ p. p ≡ loaded_parts board.now (contents images.now)) }
     ensures sound { IfOk result (λ p. IsSound p.kernel) }
-    ensures laid { IfOk result (λ p. AreLaid p.guard p.modules) }
+    ensures laid { IfOk result (λ p. AreLaid p.memory p.modules) }
     ensures count { IfOk result (λ p. length p.modules ≡ length board.now.modules) }
-    ensures images { IfOk result (λ p. images_in p.guard p.modules ≡ contents images.now) }
+    ensures images { IfOk result (λ p. images_in p.memory p.modules ≡ contents images.now) }
     ensures accepted { IfOk result (λ _. boot_refusal board.now (contents images.now) ≡ None) }
     ensures refused { IfErr result (Refuses (boot_refusal board.now (contents images.now))) }
 {
     let rows = place_modules(alloc, board, images)?;
-    let guard = memory_with(alloc, board.ram, images, &rows)?;
+    let memory = memory_with(alloc, board.ram, images, &rows)?;
     let kernel = kernel_with(alloc, &rows)?;
     let modules = Manager::new(alloc, &rows)?;
-    Ok(Inside {
+    let devices = Devices::new(alloc, board.devices.items().len())?;
+    Ok(Parts {
         kernel,
-        guard,
+        memory,
         modules,
+        devices,
     })
 }
 
-/// Starts a module, where it is to start.
-fn start_one(m: &BoardModule, i: ModNo, k: &mut Kernel, g: &mut Guard, ms: &mut Manager)
-    requires sound { IsSound k.old }
-    requires laid { AreLaid g.old ms.old }
-    requires row { i < length ms.old }
-    ensures parts { parts k.new g.new ms.new ≡ one_started i m.now (parts k.old g.old ms.old) }
-    ensures sound { IsSound k.new }
-    ensures laid { AreLaid g.new ms.new }
-    ensures count { length ms.new ≡ length ms.old }
-    ensures images { images_in g.new ms.new ≡ images_in g.old ms.old }
-{
-    a_write_changes_its_range_alone();
-    a_write_changes_its_bytes_alone();
-    if m.start {
-        ms.start(k, g, i);
+impl Parts {
+    /// Starts a module, and gives the status of the start.
+    fn start(&mut self, i: ModNo) -> Code
+        requires sound { IsSound self.old.kernel }
+        requires laid { AreLaid self.old.memory self.old.modules }
+        requires row { i < length self.old.modules }
+        ensures parts { self.new ≡ after_start self.old (start_of self.old i) }
+        ensures status { result ≡ (start_of self.old i).answer }
+        ensures sound { IsSound self.new.kernel }
+        ensures laid { AreLaid self.new.memory self.new.modules }
+        ensures count { length self.new.modules ≡ length self.old.modules }
+        ensures images { images_in self.new.memory self.new.modules
+            ≡ images_in self.old.memory self.old.modules }
+    {
+        a_write_changes_its_range_alone();
+        a_write_changes_its_bytes_alone();
+        self.modules.start(&mut self.kernel, &mut self.memory, i)
+    }
+
+    /// Starts a module, where it is to start.
+    fn start_one(&mut self, m: &BoardModule, i: ModNo)
+        requires sound { IsSound self.old.kernel }
+        requires laid { AreLaid self.old.memory self.old.modules }
+        requires row { i < length self.old.modules }
+        ensures parts { self.new ≡ one_started i m.now self.old }
+        ensures sound { IsSound self.new.kernel }
+        ensures laid { AreLaid self.new.memory self.new.modules }
+        ensures count { length self.new.modules ≡ length self.old.modules }
+        ensures images { images_in self.new.memory self.new.modules
+            ≡ images_in self.old.memory self.old.modules }
+    {
+        if m.start {
+            self.start(i);
+        }
+    }
+
+    /// Starts the modules that are to start, in their order.
+    fn start_all(&mut self, modules: &[BoardModule])
+        requires sound { IsSound self.old.kernel }
+        requires laid { AreLaid self.old.memory self.old.modules }
+        requires count { length self.old.modules ≡ length modules.now }
+        ensures parts { self.new ≡ all_started 0 modules.now self.old }
+        ensures sound { IsSound self.new.kernel }
+        ensures laid { AreLaid self.new.memory self.new.modules }
+        ensures count { length self.new.modules ≡ length self.old.modules }
+        ensures images { images_in self.new.memory self.new.modules
+            ≡ images_in self.old.memory self.old.modules }
+    {
+        for (i, m) in modules.iter().enumerate() {
+            self.start_one(m, ModNo::new(i as u8));
+        }
     }
 }
 
-/// Starts the modules that are to start, in their order.
-fn start_all(modules: &[BoardModule], k: &mut Kernel, g: &mut Guard, ms: &mut Manager)
-    requires sound { IsSound k.old }
-    requires laid { AreLaid g.old ms.old }
-    requires count { length ms.old ≡ length modules.now }
-    ensures parts { parts k.new g.new ms.new ≡ all_started 0 modules.now (parts k.old g.old ms.old) }
-    ensures sound { IsSound k.new }
-    ensures laid { AreLaid g.new ms.new }
-    ensures count { length ms.new ≡ length ms.old }
-    ensures images { images_in g.new ms.new ≡ images_in g.old ms.old }
-{
-    for (i, m) in modules.iter().enumerate() {
-        start_one(m, ModNo::new(i as u8), k, g, ms);
-    }
-}
-
-/// A board's modules, where those that are to start were started.
+/// A board's parts, where those of its modules that are to start were started.
 #[tactic(auto, unfolding(crate::specs::Boot::booted_parts))]
-fn booted_modules(alloc: Global, board: &Board, images: &[Vec<u8>]) -> Result<Inside, BootErr>
+fn booted_parts(alloc: Global, board: &Board, images: &[Vec<u8>]) -> Result<Parts, BootErr>
     requires board { IsBoard board.now }
     requires images { length images.now ≡ length board.now.modules }
-    ensures parts { IfOk result (λ p. parts p.kernel p.guard p.modules ≡ booted_parts board.now (contents images.now)) }
+    ensures parts { IfOk result (λ p. p ≡ booted_parts board.now (contents images.now)) }
     ensures sound { IfOk result (λ p. IsSound p.kernel) }
-    ensures laid { IfOk result (λ p. AreLaid p.guard p.modules) }
+    ensures laid { IfOk result (λ p. AreLaid p.memory p.modules) }
     ensures count { IfOk result (λ p. length p.modules ≡ length board.now.modules) }
-    ensures images { IfOk result (λ p. images_in p.guard p.modules ≡ contents images.now) }
+    ensures images { IfOk result (λ p. images_in p.memory p.modules ≡ contents images.now) }
     ensures accepted { IfOk result (λ _. boot_refusal board.now (contents images.now) ≡ None) }
     ensures refused { IfErr result (Refuses (boot_refusal board.now (contents images.now))) }
 {
-    let Inside {
-        mut kernel,
-        mut guard,
-        mut modules,
-    } = load_modules(alloc, board, images)?;
-    start_all(board.modules.items(), &mut kernel, &mut guard, &mut modules);
-    Ok(Inside {
-        kernel,
-        guard,
-        modules,
-    })
-}
-
-/// The given number of devices of which nothing was taken.
-fn fresh_devices(alloc: Global, n: usize) -> Result<Vec<Device>, AllocError>
-    ensures { IfOk result (λ ds. ds.items ≡ replicate n fresh_device) }
-{
-    let fresh = Device {
-        taken: 0,
-        last: Code::SUCCESS,
-    };
-    vec![in alloc; fresh; n]
+    let mut parts = load(alloc, board, images)?;
+    parts.start_all(board.modules.items());
+    Ok(parts)
 }
 
 /// A copy of a board: the same fields.
@@ -185,20 +179,12 @@ impl Machine {
         ensures accepted { IfOk result (λ _. boot_refusal board.now (contents images.now) ≡ None) }
         ensures refused { IfErr result (Refuses (boot_refusal board.now (contents images.now))) }
     {
-        let Inside {
-            kernel,
-            guard,
-            modules,
-        } = booted_modules(alloc, board, images)?;
-        let devices = fresh_devices(alloc, board.devices.items().len())?;
+        let parts = booted_parts(alloc, board, images)?;
         let history = History::reserve(alloc, max_irqs)?;
         let board = copy_of(board)?;
         Ok(Machine {
             board,
-            kernel,
-            guard,
-            modules,
-            devices,
+            parts,
             history,
         })
     }

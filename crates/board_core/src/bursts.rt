@@ -22,10 +22,13 @@ pub struct BurstEnd {
 pub fn burst(hart: &mut Hart, guard: &mut Guard, module: ModNo, most: u32) -> BurstEnd
     ensures done { result.done ≡ (burst «module» most hart.old guard.old).done }
     ensures out { result.out ≡ out_at (burst «module» most hart.old guard.old).end }
-    ensures hart { hart.new ≡ hart_at (burst «module» most hart.old guard.old).end (burst «module» most hart.old guard.old).hart }
+    ensures hart { hart.new ≡ (let b = burst «module» most hart.old guard.old in
+        hart_at b.end b.hart) }
     ensures memory { guard.new ≡ (burst «module» most hart.old guard.old).memory }
-    ensures call { result.out ≡ Out.Call → (burst «module» most hart.old guard.old).hart ≡ before_call hart.new }
-    ensures stays { result.out ≢ Out.Call → (burst «module» most hart.old guard.old).hart ≡ hart.new }
+    ensures call { result.out ≡ Out.Call
+        → (burst «module» most hart.old guard.old).hart ≡ before_call hart.new }
+    ensures stays { result.out ≢ Out.Call
+        → (burst «module» most hart.old guard.old).hart ≡ hart.new }
 {
     let mut bus = GuardBus { guard, module };
     for done in 0..most {

@@ -32,7 +32,9 @@ pub fn a_store_puts_its_bytes()
 impl Bus for GuardBus<'_> {
     ghost memory = { λ bus. seen bus.«module» bus.guard.now };
 
-    ghost after_store = { λ bus a n value. record bus { guard = record bus.guard { now = with_number bus.guard.now a n value } } };
+    ghost after_store = { λ bus a n value. record bus {
+      guard = record bus.guard { now = with_number bus.guard.now a n value };
+    } };
 
     fn fetch(&self, a: u32) -> Result<u32, Cause> {
         if self.guard.may(self.module, Access::Fetch, a, 4) {

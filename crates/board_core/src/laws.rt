@@ -1,13 +1,20 @@
 //! What holds of every event, whatever the board: each function's contract is a law.
 //!
 //! Their bodies do nothing; a function calls one where its proof needs the law.
-ghost use Rattle.board_core.specs.Laws.{FrameLaw, RegionsStay, ImagesStay, OwnersStay, RunnerIsStarted, FaultIsKept, CodeIsInNoFrame, OthersDataIsInNoFrame, FaultSparesOthers, FaultKeepsBytes};
+ghost use Rattle.board_core.specs.Laws.{TraceLaw, TotalsAreOfEnded, FrameLaw, RegionsStay, ImagesStay, OwnersStay, RunnerIsStarted, FaultIsKept, CodeIsInNoFrame, OthersDataIsInNoFrame, FaultSparesOthers, FaultKeepsBytes};
 
 use call_dispatch::laws::a_call_writes_its_result_alone;
 use flat_ram::{a_number_lies_lowest_byte_first, a_write_changes_its_range_alone};
 use kernel_state::laws::who_runs_is_a_thread;
 use module_manager::laws::{a_halt_ends_its_module, a_halt_spares_other_modules};
 use region_guard::{a_write_changes_its_bytes_alone, what_may_be_used_is_in_ram};
+
+/// A run reaches what its events make of the booted board, one after another; and a report counts the
+/// waits that ended.
+pub fn a_run_is_its_events()
+    ensures now { TraceLaw }
+    ensures totals { TotalsAreOfEnded }
+{}
 
 /// An event changes no byte outside of its frame.
 pub fn a_frame_bounds_an_event()

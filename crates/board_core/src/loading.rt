@@ -23,9 +23,11 @@ fn ram_with(
     images: &[Vec<u8>],
     rows: &[(Preamble, Placed)],
 ) -> Result<Ram, flat_ram::NoMemory>
-    requires laid { AreLaid (memory_with size (contents images.now) (map loaded rows.now)) (map loaded rows.now) }
+    requires laid { let ms = map loaded rows.now in
+        AreLaid (memory_with size (contents images.now) ms) ms }
     requires images { AreImagesOf (map loaded rows.now) (contents images.now) }
-    ensures { IfOk result (λ ram. ram ≡ with_images (replicate size 0) (contents images.now) (map loaded rows.now)) }
+    ensures { IfOk result (λ ram. ram
+        ≡ with_images (replicate size 0) (contents images.now) (map loaded rows.now)) }
 {
     a_write_changes_its_range_alone();
     let mut ram = Ram::new(alloc, size)?;
@@ -101,9 +103,11 @@ pub(crate) fn memory_with(
     images: &[Vec<u8>],
     rows: &[(Preamble, Placed)],
 ) -> Result<Guard, NoMemory>
-    requires laid { AreLaid (memory_with size (contents images.now) (map loaded rows.now)) (map loaded rows.now) }
+    requires laid { let ms = map loaded rows.now in
+        AreLaid (memory_with size (contents images.now) ms) ms }
     requires images { AreImagesOf (map loaded rows.now) (contents images.now) }
-    ensures { IfOk result (λ g. g ≡ memory_with size (contents images.now) (map loaded rows.now)) }
+    ensures { IfOk result (λ g. g
+        ≡ memory_with size (contents images.now) (map loaded rows.now)) }
 {
     let Ok(ram) = ram_with(alloc, size, images, rows) else {
         return Err(NoMemory);

@@ -9,16 +9,14 @@ ghost use Rattle.board_core.specs.Machine.{shown};
 ghost use Rattle.board_core.specs.Report.{report_of};
 ghost use Rattle.board_core.specs.Run.{run};
 
-use crate::device::Device;
 use crate::machine::Machine;
+use crate::parts::Parts;
 use crate::rows::{device_rows, module_rows, numbers, object_rows, thread_rows};
 use crate::shows::show_rows;
 use board_file::Board;
 use board_values::{Report, Totals};
 use event_log::History;
 use kernel_state::Kernel;
-use module_manager::Manager;
-use region_guard::Guard;
 use std::alloc::Global;
 use tx_types::NoMemory;
 
@@ -47,17 +45,15 @@ const NO_WAITS: Totals = Totals {
 fn report(
     alloc: Global,
     board: &Board,
-    kernel: &Kernel,
-    guard: &Guard,
-    modules: &Manager,
-    devices: &[Device],
+    parts: &Parts,
     history: &History,
 ) -> Result<Report, NoMemory>
-    requires { IsWorld (shown board.now kernel.now guard.now modules.now devices.now history.now.entries) }
+    requires { IsWorld (shown board.now parts.now history.now.entries) }
     ensures report { IfOk result (λ r. r
-        ≡ report_of (shown board.now kernel.now guard.now modules.now devices.now history.now.entries)) }
+        ≡ report_of (shown board.now parts.now history.now.entries)) }
     ensures printable { IfOk result IsPrintable }
 {
+    let kernel = &parts.kernel;
     Ok(Report {
         steps: history.steps(),
         irqs: history.irqs(),
@@ -67,28 +63,21 @@ fn report(
         held: numbers(alloc, &kernel.ready.held_list(alloc)?)?,
         ready: numbers(alloc, &kernel.ready.ready_list(alloc)?)?,
         totals: NO_WAITS,
-        modules: module_rows(alloc, board, modules)?,
+        modules: module_rows(alloc, board, &parts.modules)?,
         threads: thread_rows(alloc, kernel)?,
         objects: object_rows(alloc, kernel)?,
-        devices: device_rows(alloc, board, devices)?,
-        shows: show_rows(alloc, board, guard, modules)?,
+        devices: device_rows(alloc, board, &parts.devices)?,
+        shows: show_rows(alloc, board, &parts.memory, &parts.modules)?,
     })
 }
 
 impl Machine {
     /// The report on the board as its events left it.
     pub fn look(&self, alloc: Global) -> Result<Report, NoMemory>
-        ensures report { IfOk result (λ r. r ≡ report_of (run self.now.origin self.now.history)) }
+        ensures report { IfOk result (λ r. r
+            ≡ report_of (run self.now.origin self.now.history).now) }
         ensures printable { IfOk result IsPrintable }
     {
-        report(
-            alloc,
-            &self.board,
-            &self.kernel,
-            &self.guard,
-            &self.modules,
-            &self.devices,
-            &self.history,
-        )
+        report(alloc, &self.board, &self.parts, &self.history)
     }
 }

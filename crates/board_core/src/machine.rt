@@ -4,26 +4,20 @@
 //! by that history. Every event's memory was taken at boot, and each event always returns.
 ghost use Rattle.std.specs.Prelude.{◌≡◌, ◌+◌, ◌<◌, ◌≤◌, length};
 ghost use Rattle.event_log.specs.Log.{IsHistory, irq_count, step_count, with_irq, with_step, with_steps};
-ghost use Rattle.kernel_state.specs.Sound.{IsSound};
 ghost use Rattle.region_guard.specs.Memory.{IsSound as IsSoundMemory};
 ghost use Rattle.module_manager.specs.Modules.{module_at};
-ghost use Rattle.board_core.specs.Action.{acted, device_of, status_of};
 ghost use Rattle.board_core.specs.Laws.{IsWorld};
 ghost use Rattle.board_core.specs.Run.{run};
-ghost use Rattle.board_core.specs.World.{device_at, with_taken};
+ghost use Rattle.board_core.specs.Devices.{device_at};
 
-use crate::action::act;
-use crate::device::Device;
 use crate::laws::{an_event_keeps_regions_and_images, slots_are_of_started_modules};
-use crate::step::turn;
+use crate::parts::Parts;
 use board_file::Board;
 use board_values::DevNo;
 use event_log::{History, a_history_grows_by_one_event, a_history_grows_by_steps};
 use flat_ram::a_write_changes_its_range_alone;
-use kernel_state::Kernel;
 use kernel_state::laws::{a_kernel_stays_sound, who_runs_is_a_thread};
 use module_loader::Placed;
-use module_manager::Manager;
 use region_guard::Guard;
 use std::marker::Model;
 use tx_types::{Code, ModNo};
@@ -32,10 +26,7 @@ use tx_types::{Code, ModNo};
 #[derive(Drop)]
 pub struct Machine {
     pub(crate) board: Board,
-    pub(crate) kernel: Kernel,
-    pub(crate) guard: Guard,
-    pub(crate) modules: Manager,
-    pub(crate) devices: Vec<Device>,
+    pub(crate) parts: Parts,
     pub(crate) history: History,
 }
 
@@ -46,12 +37,12 @@ impl Model for Machine {
     ghost Value = { Recorded };
 
     ghost view = { λ m. record {
-      origin = origin_of m.board m.guard m.modules;
+      origin = origin_of m.board m.parts;
       history = m.history.entries;
       irqs = m.history.irqs;
     } };
 
-    ghost invariant = { λ m. Stands m.board m.kernel m.guard m.modules m.devices.items m.history.entries };
+    ghost invariant = { λ m. Stands m.board m.parts m.history.entries };
 }
 
 impl Machine {
@@ -72,12 +63,12 @@ impl Machine {
         a_history_grows_by_steps();
         let mut left = n;
         while left > 0 {
-            left -= self.turn(left);
+            left -= self.make(left);
         }
     }
 
     /// Makes at least one step and at most the given number, and says how many.
-    fn turn(&mut self, most: u32) -> u32
+    fn make(&mut self, most: u32) -> u32
         requires some { 0 < most }
         requires room { step_count self.old.history + most ≤ 100000000 }
         ensures some { 0 < result }
@@ -90,8 +81,8 @@ impl Machine {
         who_runs_is_a_thread();
         a_kernel_stays_sound();
         a_write_changes_its_range_alone();
-        let made = turn(&mut self.kernel, &mut self.guard, &mut self.modules, most);
-        is_guarded(&self.guard);
+        let made = self.parts.make_steps(most);
+        is_guarded(&self.parts.memory);
         self.history.add_steps(made);
         made
     }
@@ -106,17 +97,16 @@ impl Machine {
         a_history_grows_by_one_event();
         an_event_keeps_regions_and_images();
         slots_are_of_started_modules();
-        let status = act_for(&self.board, &mut self.kernel, &mut self.guard, d, w);
-        is_guarded(&self.guard);
         let _ = self.history.room();
-        note_taken(&mut self.devices, d, status);
+        self.parts.interrupt(&self.board, d, w);
+        is_guarded(&self.parts.memory);
         self.history.add_irq(d, w);
     }
 
     /// The run of the machine's history is a world of which the laws speak; the history is one of the
     /// board's devices, within its limits and the room.
     pub fn stands(&self)
-        ensures world { IsWorld (run self.now.origin self.now.history) }
+        ensures world { IsWorld (run self.now.origin self.now.history).now }
         ensures history { IsHistory (length self.now.origin.board.devices) self.now.history }
         ensures room { irq_count self.now.history ≤ self.now.irqs }
     {
@@ -141,17 +131,19 @@ impl Machine {
     /// Where a module lies.
     pub fn placed(&self, m: ModNo) -> Placed
         requires { m < length self.now.origin.board.modules }
-        ensures { result ≡ (module_at (run self.now.origin self.now.history).modules m).placed }
+        ensures { result
+            ≡ (module_at (run self.now.origin self.now.history).now.parts.modules m).placed }
     {
-        self.modules.row(m).placed
+        self.parts.modules.row(m).placed
     }
 
     /// The status of a device's last action; SUCCESS before the first.
     pub fn last(&self, d: DevNo) -> Code
         requires { d < length self.now.origin.board.devices }
-        ensures { result ≡ (device_at (run self.now.origin self.now.history).devices d).last }
+        ensures { result
+            ≡ (device_at (run self.now.origin self.now.history).now.parts.devices d).last }
     {
-        self.devices[d.number() as usize].last
+        self.parts.devices.row(d).last
     }
 }
 
@@ -161,28 +153,4 @@ fn is_guarded(g: &Guard)
     ensures { IsSoundMemory g.now }
 {
     let _ = g.regions();
-}
-
-/// Makes the action of a device of the board on a word, and gives its status.
-fn act_for(board: &Board, k: &mut Kernel, g: &mut Guard, d: DevNo, word: u32) -> Code
-    requires sound { IsSound k.old }
-    requires device { d < length board.now.devices }
-    ensures kernel { k.new ≡ (acted k.old g.old (device_of board.now d).action (device_of board.now d).target word).kernel }
-    ensures memory { g.new ≡ (acted k.old g.old (device_of board.now d).action (device_of board.now d).target word).memory }
-    ensures status { result ≡ status_of (acted k.old g.old (device_of board.now d).action (device_of board.now d).target word).answer }
-    ensures sound { IsSound k.new }
-{
-    let device = &board.devices.items()[d.number() as usize];
-    act(k, g, device.action, &device.target, word)
-}
-
-/// One interrupt more was taken of a device, and its action had this status.
-fn note_taken(devices: &mut Vec<Device>, d: DevNo, status: Code)
-    requires device { d < length devices.old.items }
-    requires room { (device_at devices.old.items d).taken < 65536 }
-    ensures { devices.new.items ≡ with_taken devices.old.items d status }
-{
-    let device = &mut devices[d.number() as usize];
-    device.taken += 1;
-    device.last = status;
 }

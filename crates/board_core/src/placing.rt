@@ -91,7 +91,8 @@ pub(crate) fn place_modules(
 ) -> Result<Vec<(Preamble, Placed)>, BootErr>
     requires board { IsBoard board.now }
     requires images { length images.now ≡ length board.now.modules }
-    ensures rows { IfOk result (λ rows. map loaded rows.items ≡ loaded_modules board.now (contents images.now)) }
+    ensures rows { IfOk result (λ rows. map loaded rows.items
+        ≡ loaded_modules board.now (contents images.now)) }
     ensures accepted { IfOk result (λ _. boot_refusal board.now (contents images.now) ≡ None) }
     ensures loaded { IfOk result (λ _. AreLoaded board.now (contents images.now)) }
     ensures refused { IfErr result (Refuses (boot_refusal board.now (contents images.now))) }

@@ -10,11 +10,11 @@ ghost use Rattle.kernel_state.specs.Rows.{object_row};
 ghost use Rattle.module_manager.specs.Modules.{fault_in, module_at};
 ghost use Rattle.board_core.specs.Report.{each, some, device_row, fault_row, module_row, row_of_thread, thread_row};
 
-use crate::device::Device;
+use crate::devices::Devices;
 use board_file::Board;
 use board_values::{
-    DeviceRow, DeviceRows, FaultRow, ModuleRow, ModuleRows, Nums, ObjectRows, Rows, ThreadRow,
-    ThreadRows,
+    DevNo, DeviceRow, DeviceRows, FaultRow, ModuleRow, ModuleRows, Nums, ObjectRows, Rows,
+    ThreadRow, ThreadRows,
 };
 use kernel_state::Kernel;
 use module_manager::Manager;
@@ -89,7 +89,8 @@ pub(crate) fn module_rows(
     modules: &Manager,
 ) -> Result<ModuleRows, NoMemory>
     requires { length modules.now ≡ length board.now.modules }
-    ensures { IfOk result (λ rows. rows ≡ each (length modules.now) (module_row board.now modules.now)) }
+    ensures { IfOk result (λ rows. rows
+        ≡ each (length modules.now) (module_row board.now modules.now)) }
 {
     let mut rows = Vec::new(alloc);
     for m in 0..modules.len() {
@@ -146,7 +147,8 @@ fn thread_row(alloc: Global, kernel: &Kernel, t: ThreadNo) -> Result<Option<Thre
 #[tactic(auto, using(crate::proofs::Lists::some_none, crate::proofs::Lists::some_more, crate::proofs::Lists::all_put))]
 pub(crate) fn thread_rows(alloc: Global, kernel: &Kernel) -> Result<ThreadRows, NoMemory>
     requires { length kernel.now.objects ≡ 256 }
-    ensures rows { IfOk result (λ rows. rows ≡ some (length kernel.now.objects) (thread_row kernel.now)) }
+    ensures rows { IfOk result (λ rows. rows
+        ≡ some (length kernel.now.objects) (thread_row kernel.now)) }
     ensures regs { IfOk result (All (λ (t : ThreadRow). length t.regs ≡ 31)) }
 {
     let mut rows = Vec::new(alloc);
@@ -160,7 +162,8 @@ pub(crate) fn thread_rows(alloc: Global, kernel: &Kernel) -> Result<ThreadRows, 
 #[tactic(auto, using(crate::proofs::Lists::some_none, crate::proofs::Lists::some_more))]
 pub(crate) fn object_rows(alloc: Global, kernel: &Kernel) -> Result<ObjectRows, NoMemory>
     requires { length kernel.now.objects ≡ 256 }
-    ensures { IfOk result (λ rows. rows ≡ some (length kernel.now.objects) (object_row kernel.now)) }
+    ensures { IfOk result (λ rows. rows
+        ≡ some (length kernel.now.objects) (object_row kernel.now)) }
 {
     let mut rows = Vec::new(alloc);
     for o in 0..SLOTS {
@@ -171,15 +174,15 @@ pub(crate) fn object_rows(alloc: Global, kernel: &Kernel) -> Result<ObjectRows, 
 
 /// The row of a device.
 #[tactic(auto, unfolding(crate::specs::Report::device_row))]
-fn device_row(board: &Board, devices: &[Device], d: u8) -> Result<DeviceRow, NoMemory>
+fn device_row(board: &Board, devices: &Devices, d: DevNo) -> Result<DeviceRow, NoMemory>
     requires board { d < length board.now.devices }
     requires row { d < length devices.now }
     ensures { IfOk result (λ row. row ≡ device_row board.now devices.now d) }
 {
-    let device = devices[d as usize];
+    let device = devices.row(d);
     Ok(DeviceRow {
-        device: d,
-        name: board.devices.items()[d as usize].name.clone()?,
+        device: d.number(),
+        name: board.devices.items()[d.number() as usize].name.clone()?,
         taken: device.taken,
         last: u32::from(device.last.number()),
     })
@@ -190,15 +193,16 @@ fn device_row(board: &Board, devices: &[Device], d: u8) -> Result<DeviceRow, NoM
 pub(crate) fn device_rows(
     alloc: Global,
     board: &Board,
-    devices: &[Device],
+    devices: &Devices,
 ) -> Result<DeviceRows, NoMemory>
     requires few { length devices.now ≤ 16 }
     requires board { length devices.now ≡ length board.now.devices }
-    ensures { IfOk result (λ rows. rows ≡ each (length devices.now) (device_row board.now devices.now)) }
+    ensures { IfOk result (λ rows. rows
+        ≡ each (length devices.now) (device_row board.now devices.now)) }
 {
     let mut rows = Vec::new(alloc);
     for d in 0..devices.len() {
-        put(&mut rows, device_row(board, devices, d as u8)?)?;
+        put(&mut rows, device_row(board, devices, DevNo::new(d as u8))?)?;
     }
     Ok(Rows::new(rows))
 }

@@ -85,7 +85,8 @@ pub(crate) fn show_rows(
     requires board { IsBoard board.now }
     requires modules { length modules.now ≡ length board.now.modules }
     requires regions { guard.now.regions ≡ regions_of 0 modules.now }
-    ensures { IfOk result (λ rows. rows ≡ each (length board.now.shows) (show_row board.now guard.now modules.now)) }
+    ensures { IfOk result (λ rows. rows
+        ≡ each (length board.now.shows) (show_row board.now guard.now modules.now)) }
 {
     let mut rows = Vec::new(alloc);
     for i in 0..board.shows.items().len() {

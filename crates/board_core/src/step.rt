@@ -6,63 +6,84 @@
 ghost use Rattle.std.specs.Prelude.{◌≡◌, Some};
 ghost use Rattle.kernel_state.specs.Kernel.{thread};
 ghost use Rattle.kernel_state.specs.Sound.{IsSound};
-ghost use Rattle.board_core.specs.Burst.{burst_of, hart_at, out_at, turned};
-ghost use Rattle.board_core.specs.Step.{parts, with_hart};
+ghost use Rattle.board_core.specs.Burst.{burst_of, hart_at, made, made_of, out_at};
+ghost use Rattle.board_core.specs.Step.{after_call, after_fault, ran_on};
 
 use crate::bursts::{BurstEnd, burst};
+use crate::parts::Parts;
 use call_dispatch::dispatch;
-use kernel_state::Kernel;
 use kernel_state::laws::{a_kernel_stays_sound, who_runs_is_a_thread};
-use module_manager::Manager;
-use region_guard::Guard;
-use rv_core::Out;
+use rv_core::{Cause, Out};
 use tx_types::ThreadNo;
 
-/// Makes the steps up to the next call or fault, with that, at most the given number, and says how
-/// many; all of them where no thread runs.
-pub(crate) fn turn(k: &mut Kernel, g: &mut Guard, ms: &mut Manager, most: u32) -> u32
-    requires { IsSound k.old }
-    ensures made { result ≡ (turned most k.old g.old ms.old k.old.ready.run).made }
-    ensures parts { parts k.new g.new ms.new ≡ (turned most k.old g.old ms.old k.old.ready.run).parts }
-    ensures sound { IsSound k.new }
-{
-    match k.running() {
-        Some(t) => turn_of(k, g, ms, t, most),
-        None => most,
-    }
-}
-
-/// Makes the steps of the running thread.
-fn turn_of(k: &mut Kernel, g: &mut Guard, ms: &mut Manager, t: ThreadNo, most: u32) -> u32
-    requires sound { IsSound k.old }
-    requires runs { k.old.ready.run ≡ Some t }
-    ensures made { result ≡ (turned most k.old g.old ms.old (Some t)).made }
-    ensures parts { parts k.new g.new ms.new ≡ (turned most k.old g.old ms.old (Some t)).parts }
-    ensures sound { IsSound k.new }
-{
-    let ran = execute(k, g, t, most);
-    match ran.out {
-        Out::Done => return ran.done,
-        Out::Call => dispatch(k, g, t),
-        Out::Fault(cause) => {
-            who_runs_is_a_thread();
-            let pc = k.hart(t).pc;
-            ms.fault(k, g, t, cause, pc);
+impl Parts {
+    /// Makes the steps up to the next call or fault, with that, at most the given number, and says
+    /// how many; all of them where no thread runs.
+    pub(crate) fn make_steps(&mut self, most: u32) -> u32
+        requires { IsSound self.old.kernel }
+        ensures steps { result ≡ (made most self.old).steps }
+        ensures parts { self.new ≡ (made most self.old).parts }
+        ensures sound { IsSound self.new.kernel }
+    {
+        match self.kernel.running() {
+            Some(t) => self.run(t, most),
+            None => most,
         }
     }
-    ran.done + 1
-}
 
-/// Executes a thread's code, for its module.
-fn execute(k: &mut Kernel, g: &mut Guard, t: ThreadNo, most: u32) -> BurstEnd
-    requires { IsSound k.old }
-    ensures done { result.done ≡ (burst_of k.old g.old t most).done }
-    ensures out { result.out ≡ out_at (burst_of k.old g.old t most).end }
-    ensures kernel { k.new ≡ with_hart k.old t (hart_at (burst_of k.old g.old t most).end (burst_of k.old g.old t most).hart) }
-    ensures memory { g.new ≡ (burst_of k.old g.old t most).memory }
-    ensures sound { IsSound k.new }
-{
-    a_kernel_stays_sound();
-    let module = k.module_of(t);
-    burst(k.hart_mut(t), g, module, most)
+    /// Makes the steps of the running thread.
+    fn run(&mut self, t: ThreadNo, most: u32) -> u32
+        requires sound { IsSound self.old.kernel }
+        requires runs { self.old.kernel.ready.run ≡ Some t }
+        ensures steps { result ≡ (made_of most self.old (Some t)).steps }
+        ensures parts { self.new ≡ (made_of most self.old (Some t)).parts }
+        ensures sound { IsSound self.new.kernel }
+    {
+        let ran = self.execute(t, most);
+        match ran.out {
+            Out::Done => return ran.done,
+            Out::Call => self.call(t),
+            Out::Fault(cause) => self.fault(t, cause),
+        }
+        ran.done + 1
+    }
+
+    /// Executes a thread's code, for its module.
+    fn execute(&mut self, t: ThreadNo, most: u32) -> BurstEnd
+        requires { IsSound self.old.kernel }
+        ensures done { result.done ≡ (burst_of self.old t most).done }
+        ensures out { result.out ≡ out_at (burst_of self.old t most).end }
+        ensures parts { self.new ≡ (let b = burst_of self.old t most in
+            ran_on self.old t (hart_at b.end b.hart) b.memory) }
+        ensures runs { self.new.kernel.ready ≡ self.old.kernel.ready }
+        ensures sound { IsSound self.new.kernel }
+    {
+        a_kernel_stays_sound();
+        let module = self.kernel.module_of(t);
+        burst(self.kernel.hart_mut(t), &mut self.memory, module, most)
+    }
+
+    /// Serves the call of a thread.
+    fn call(&mut self, t: ThreadNo)
+        requires sound { IsSound self.old.kernel }
+        requires runs { self.old.kernel.ready.run ≡ Some t }
+        ensures parts { self.new ≡ after_call self.old t }
+        ensures sound { IsSound self.new.kernel }
+    {
+        dispatch(&mut self.kernel, &mut self.memory, t);
+    }
+
+    /// Halts the module of a thread whose next instruction can't be executed.
+    #[tactic(auto, unfolding(crate::specs::Step::after_fault))]
+    fn fault(&mut self, t: ThreadNo, cause: Cause)
+        requires sound { IsSound self.old.kernel }
+        requires runs { self.old.kernel.ready.run ≡ Some t }
+        ensures parts { self.new ≡ after_fault self.old t cause }
+        ensures sound { IsSound self.new.kernel }
+    {
+        who_runs_is_a_thread();
+        let pc = self.kernel.hart(t).pc;
+        self.modules
+            .fault(&mut self.kernel, &mut self.memory, t, cause, pc);
+    }
 }

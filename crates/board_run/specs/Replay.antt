@@ -37,7 +37,7 @@ pub record Session : Type 0 where
 unfoldable pub session_of : Loaded → List Entry → Result Session Stop
 session_of l history = do
   origin ← booted_from l
-  Ok (record { history = history; report = report_of (run origin history) })
+  Ok (record { history = history; report = report_of (run origin history).now })
 
 -- the same of the log of a name
 unfoldable pub session_on : Loaded → List ℕ → (List ℕ → Option (List ℕ)) → Result Session Stop

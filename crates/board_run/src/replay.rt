@@ -21,6 +21,7 @@ ghost use Rattle.board_io.specs.Sink.{Wrote};
 use crate::boards::{Loaded, load_board};
 use crate::reading::file_of;
 use crate::refusal::{Refusal, Stop};
+use board_core::laws::a_run_is_its_events;
 use board_core::{BootErr, Machine};
 use board_io::{Files, Sink, WriteErr};
 use board_report::{lines, report_line};
@@ -89,9 +90,10 @@ fn report_after(alloc: Global, mut machine: Machine, history: &History) -> Resul
     requires fresh { machine.history ≡ [] }
     requires room { machine.irqs ≡ 65536 }
     requires history { IsHistory (length machine.origin.board.devices) history.now.entries }
-    ensures report { IfOk result (λ r. r ≡ report_of (run machine.origin history.now.entries)) }
+    ensures report { IfOk result (λ r. r ≡ report_of (run machine.origin history.now.entries).now) }
     ensures printable { IfOk result IsPrintable }
 {
+    a_run_is_its_events();
     replay(history, &mut machine);
     machine.look(alloc)
 }

@@ -7,7 +7,7 @@ use Rattle.module_preamble.specs.declared.words.Preamble.{Preamble}
 use Rattle.board_core.specs.Boot.{contents}
 use Rattle.board_core.specs.Laid.{AreImagesOf}
 use Rattle.board_core.proofs.LoadingSteps.{as_many, rows_placed}
-use Rattle.board_core.proofs.boot.load_modules.Goals as goal
+use Rattle.board_core.proofs.boot.load.Goals as goal
 
 abbrev ArePlaced : List (Preamble × Placed) → Type 0
 ArePlaced rows = All (λ r. IsPlaced r.0 r.1) rows

@@ -1,6 +1,0 @@
-use Rattle.std.proofs.Common.{sym, ◌∙◌}
-use Rattle.board_core.proofs.Names.{named_is_thread}
-use Rattle.board_core.proofs.action.resume_by_name.Goals as goal
-
-pub resume_object-requires-clause-live : goal.resume_object-requires-clause-live
-resume_object-requires-clause-live c = named_is_thread c.args.k.now c.args.name.now c.in-Some.t (sym c.find.ensures ∙ c.in-Some.is)
