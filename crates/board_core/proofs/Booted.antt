@@ -10,13 +10,14 @@ use Rattle.kernel_state.specs.Sound.{IsSound}
 use Rattle.board_core.specs.Boot.{booted, booted_parts, loaded_modules}
 use Rattle.board_core.specs.Laid.{AreLaid}
 use Rattle.board_core.specs.Laws.{images_in}
-use Rattle.board_core.specs.Machine.{Recorded, Stands, origin_of, shown}
+use Rattle.board_core.specs.Machine.{AreCounted, Recorded, Stands, origin_of, shown}
 use Rattle.board_core.specs.Owners.{AreOwned}
 use Rattle.board_core.specs.Run.{Origin}
 use Rattle.board_core.specs.Devices.{fresh_device}
 use Rattle.board_core.specs.World.{World}
 use Rattle.board_core.specs.declared.devices.Device.{Device}
 use Rattle.board_core.specs.declared.parts.Parts.{Parts}
+use Rattle.board_core.proofs.Counts.{fresh_counts}
 use Rattle.board_core.proofs.OwnedStart.{booted_count, booted_devices, booted_owned}
 
 -- the world of parts in which no event was made
@@ -47,6 +48,7 @@ stands_at_first b images p board sound laid same theirs count =
         owned = subst (λ (q : Parts). AreOwned q.modules q.kernel.objects) (sym same) (booted_owned b images (omega (arith, as_many)));
       };
       its_devices = All-nil (IsEntry (length b.devices));
+      counts = subst (λ (xs : List Device). AreCounted xs []) (sym fresh) (fresh_counts (length b.devices));
     }
 
 pub stands : (given b : Board) (images : List (List ℕ)) (p : Parts) (entries : List Entry) → given ≡ b → IsBoard b → IsSound p.kernel

@@ -22,7 +22,8 @@ own_data : (i a : ℕ) (m : Module) → covers (data_region i m) a 4 ≡ true �
 own_data i a m inside =
     and_from _ _ (and_from _ _ inside refl) (eq-eqb (bits (2 ^ i) i 1) 1 (own_bit i))
 
-some_lets : (i m j a : ℕ) (ms : List Module) → m < length ms → j ≡ i + m → covers (data_region j (module_at ms m)) a 4 ≡ true → list_any (lets j Load a 4) (regions_of i ms) ≡ true
+some_lets : (i m j a : ℕ) (ms : List Module) → m < length ms → j ≡ i + m → covers (data_region j (module_at ms m)) a 4 ≡ true
+    → list_any (lets j Load a 4) (regions_of i ms) ≡ true
 some_lets i m j a [] low is inside = absurd (omega arith)
 some_lets i zero j a (x ∷ ms) low is inside =
     let here : i ≡ j = omega arith in
@@ -33,8 +34,11 @@ some_lets i (suc m) j a (x ∷ ms) low is inside =
     (or_right (lets j Load a 4 (data_region i x)) _ (some_lets (i + 1) m j a ms (omega arith) (omega arith) inside))
 
 -- a word of a module's data region may be loaded by it
-pub data_is_loaded : (g : Memory) (ms : List Module) (m at : ℕ) → g.regions ≡ regions_of 0 ms → m < length ms → at + 4 ≤ (want_of (module_at ms m).preamble).data_bytes → may g m Load ((module_at ms m).placed.data_base + at) 4 ≡ true
+pub data_is_loaded : (g : Memory) (ms : List Module) (m at : ℕ) → g.regions ≡ regions_of 0 ms → m < length ms
+    → at + 4 ≤ (want_of (module_at ms m).preamble).data_bytes → may g m Load ((module_at ms m).placed.data_base + at) 4 ≡ true
 data_is_loaded g ms m at regions low inside =
     let a = (module_at ms m).placed.data_base + at in
-    let covered = and_from _ _ (le-leb (module_at ms m).placed.data_base a (omega arith)) (le-leb (a + 4) ((module_at ms m).placed.data_base + (want_of (module_at ms m).preamble).data_bytes) (omega (arith, inside))) in
+    let covered =
+    and_from _ _ (le-leb (module_at ms m).placed.data_base a (omega arith))
+    (le-leb (a + 4) ((module_at ms m).placed.data_base + (want_of (module_at ms m).preamble).data_bytes) (omega (arith, inside))) in
     subst (λ rs. list_any (lets m Load a 4) rs ≡ true) (sym regions) (some_lets 0 m m a ms low (omega arith) covered)

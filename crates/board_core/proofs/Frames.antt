@@ -87,7 +87,8 @@ unfolding dispatched
 dispatched_within lower w t h world below =
     let k = with_hart w.parts.kernel t h in
     let same : (thread k t).hart ≡ h = ap (λ (u : Thread). u.hart) (thread-with_hart w.parts.kernel t h world.kernel below) in
-    subst (λ (f : HartState). ChangesWithin (effect_frame w.parts t (Calls h)) w.parts.memory (call_row (number_asked f) k w.parts.memory t (arguments f)).memory)
+    subst (λ (f : HartState).
+    ChangesWithin (effect_frame w.parts t (Calls h)) w.parts.memory (call_row (number_asked f) k w.parts.memory t (arguments f)).memory)
     (sym same) (called_within lower k w.parts.memory t (number_asked h) (arguments h) world.memory)
 
 -- a step
@@ -95,11 +96,12 @@ effect_within : Lower → (w : World) (t : ℕ) (e : Effect) → IsWorld w → t
     → ChangesWithin (effect_frame w.parts t e) w.parts.memory (after_effect w.parts t e).memory
 unfolding after_fault
 effect_within lower w t (Completes h) world below allowed = nothing_changes w.parts.memory
-effect_within lower w t (Stores a n value h) world below allowed = stored_within lower w.parts.memory (module_of w.parts.kernel t) a n value world.memory allowed.0 allowed.1
+effect_within lower w t (Stores a n value h) world below allowed =
+    stored_within lower w.parts.memory (module_of w.parts.kernel t) a n value world.memory allowed.0 allowed.1
 effect_within lower w t (Calls h) world below allowed = dispatched_within lower w t h world below
 effect_within lower w t (Faults cause) world below allowed = nothing_changes w.parts.memory
 
-step_within : Lower → (w : World) (run : Option ℕ) → IsWorld w → w.parts.kernel.ready.run ≡ run
+pub step_within : Lower → (w : World) (run : Option ℕ) → IsWorld w → w.parts.kernel.ready.run ≡ run
     → ChangesWithin (step_frame w.parts run) w.parts.memory (stepped_by w.parts run).memory
 step_within lower w None world runs = nothing_changes w.parts.memory
 step_within lower w (Some t) world runs =

@@ -23,14 +23,17 @@ use Rattle.board_core.proofs.Loaded.{length_with_images}
 use Rattle.board_core.proofs.ModuleRegions.{NoneMeet, each_code, each_data, length_regions, twice_is, unmet_from}
 
 -- each module that is placed has one place
-one_more : (p : Placed) (due : Result (List Placed) ℕ) (n : ℕ) (places : List Placed) → ((others : List Placed) → due ≡ Ok others → length others ≡ n) → before_others p due ≡ Ok places → length places ≡ suc n
+one_more : (p : Placed) (due : Result (List Placed) ℕ) (n : ℕ) (places : List Placed) → ((others : List Placed) → due ≡ Ok others → length others ≡ n)
+    → before_others p due ≡ Ok places → length places ≡ suc n
 one_more p (Err i) n places later h = absurd (cc)
 one_more p (Ok others) n places later h =
     let same : p ∷ others ≡ places = cc in
     let count = later others refl in
     sym (ap (λ (ps : List Placed). length ps) same) ∙ ap suc count
 
-with_one : (one : Option PlacedOne) (wants : List Want) (places : List Placed) → ((rest : List Range) (others : List Placed) → placement rest wants ≡ Ok others → length others ≡ length wants) → and_others (λ rest. placement rest wants) one ≡ Ok places → length places ≡ suc (length wants)
+with_one : (one : Option PlacedOne) (wants : List Want) (places : List Placed)
+    → ((rest : List Range) (others : List Placed) → placement rest wants ≡ Ok others → length others ≡ length wants)
+    → and_others (λ rest. placement rest wants) one ≡ Ok places → length places ≡ suc (length wants)
 with_one None wants places later h = absurd (cc)
 with_one (Some one) wants places later h = one_more one.placed (placement one.free wants) (length wants) places (λ others is. later one.free others is) h
 
@@ -57,7 +60,8 @@ usable image p a =
       some_code = omega arith;
       some_data = omega arith;
       start = record { shell_aligned = a.shell.aligned; shell_inside = a.shell.inside; entry_inside = a.start.inside; callback = λ second. absurd (cc) };
-      callback = λ has. record { shell_aligned = a.shell.aligned; shell_inside = a.shell.inside; entry_inside = (a.callback has).inside; callback = λ second. has };
+      callback =
+          λ has. record { shell_aligned = a.shell.aligned; shell_inside = a.shell.inside; entry_inside = (a.callback has).inside; callback = λ second. has };
     }
 
 -- what images want of memory has bounds
@@ -127,7 +131,8 @@ some_sizes i (p ∷ ps) (a ∷ at) all =
     (All-cons P (data_region i m) rest first.some_data (some_sizes (i + 1) ps at (All-tail IsUsable p ps all)))
 
 -- each image is as long as its module's code
-pub images_of : (images : List (List ℕ)) (at : List Placed) → AreAccepted images → length at ≡ length images → AreImagesOf (modules_of (map words_of images) at) images
+pub images_of : (images : List (List ℕ)) (at : List Placed) → AreAccepted images → length at ≡ length images
+    → AreImagesOf (modules_of (map words_of images) at) images
 images_of [] at accepted many = refl
 images_of (image ∷ images) [] accepted many = absurd (omega arith)
 images_of (image ∷ images) (a ∷ at) accepted many =
@@ -139,7 +144,8 @@ images_of (image ∷ images) (a ∷ at) accepted many =
 abbrev IsAligned : Region → Type 0
 IsAligned r = r.base % 32 ≡ 0
 
-placed_at : (bytes : List ℕ) (ms : List Module) → ram_base + length bytes < 2 ^ 32 → All (λ m. IsUsable m.preamble) ms → All IsAligned (regions_of 0 ms) → All (IsInRam bytes) (regions_of 0 ms) → All (λ m. IsPlaced m.preamble m.placed) ms
+placed_at : (bytes : List ℕ) (ms : List Module) → ram_base + length bytes < 2 ^ 32 → All (λ m. IsUsable m.preamble) ms → All IsAligned (regions_of 0 ms)
+    → All (IsInRam bytes) (regions_of 0 ms) → All (λ m. IsPlaced m.preamble m.placed) ms
 placed_at bytes ms addressable all aligned inside k d below =
     let u = all k d below in
     let code = (each_code (IsInRam bytes) ms k d inside below).range.to_end in
@@ -156,7 +162,10 @@ placed_at bytes ms addressable all aligned inside k d below =
       callback = u.callback;
     }
 
-pub laid : LengthStays → PlacedLieApart → (ram : ℕ) (images : List (List ℕ)) (at : List Placed) → 0 < ram → ram ≤ 16777216 → length images ≤ 16 → AreAccepted images → places_in ram (map words_of images) ≡ Ok at → AreLaid (memory_with ram images (modules_of (map words_of images) at)) (modules_of (map words_of images) at) × AreImagesOf (modules_of (map words_of images) at) images
+pub laid : LengthStays → PlacedLieApart → (ram : ℕ) (images : List (List ℕ)) (at : List Placed)
+    → 0 < ram → ram ≤ 16777216 → length images ≤ 16 → AreAccepted images → places_in ram (map words_of images) ≡ Ok at
+    → let ms = modules_of (map words_of images) at in
+    AreLaid (memory_with ram images ms) ms × AreImagesOf ms images
 laid lengths lie_apart ram images at some most few accepted due =
     let ps = map words_of images in
     let ms = modules_of ps at in
@@ -169,7 +178,8 @@ laid lengths lie_apart ram images at some most few accepted due =
     let all : All IsUsable ps = usable_words images accepted in
     let many : length at ≡ length images = length_placement (free_ram ram) (map want_of ps) at due ∙ (length-map ps want_of ∙ length-map images words_of) in
     let theirs = images_of images at accepted many in
-    let count : length ms ≡ length images = sym (length-map ms (λ m. (want_of m.preamble).code)) ∙ (ap (λ (ns : List ℕ). length ns) (sym theirs) ∙ length-map images length) in
+    let count : length ms ≡ length images =
+    sym (length-map ms (λ m. (want_of m.preamble).code)) ∙ (ap (λ (ns : List ℕ). length ns) (sym theirs) ∙ length-map images length) in
     let lies = each_range (LiesIn (free_ram ram)) rs (subst (All (LiesIn (free_ram ram))) same apart.inside) in
     let aligned = each_range (λ r. r.base % 32 ≡ 0) rs (subst (All (λ r. r.base % 32 ≡ 0)) same apart.aligned) in
     let sizes = some_sizes 0 ps at all in

@@ -1,5 +1,6 @@
 pub mod Booted
 pub mod BurstSteps
+pub mod Counts
 pub mod DataWords
 pub mod Effects
 pub mod Frames

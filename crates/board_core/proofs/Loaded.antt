@@ -32,7 +32,8 @@ abbrev LieApart : Module → Module → Type 0
 LieApart m other = (at m + size m ≤ at other) ⊎ (at other + size other ≤ at m)
 
 -- a module's code stays while the images of others are loaded
-code_stays : LengthStays → OthersStay → (ram : List ℕ) (images : List (List ℕ)) (ms : List Module) (m : Module) → AreImagesOf ms images → at m + size m ≤ length ram → All (LieApart m) ms → slice_range (with_images ram images ms) (at m) (at m + size m) ≡ slice_range ram (at m) (at m + size m)
+code_stays : LengthStays → OthersStay → (ram : List ℕ) (images : List (List ℕ)) (ms : List Module) (m : Module) → AreImagesOf ms images
+    → at m + size m ≤ length ram → All (LieApart m) ms → slice_range (with_images ram images ms) (at m) (at m + size m) ≡ slice_range ram (at m) (at m + size m)
 code_stays lengths stays ram [] ms m same inside apart = refl
 code_stays lengths stays ram (image ∷ images) [] m same inside apart = refl
 code_stays lengths stays ram (image ∷ images) (other ∷ ms) m same inside apart =
@@ -40,11 +41,13 @@ code_stays lengths stays ram (image ∷ images) (other ∷ ms) m same inside apa
     let later : AreImagesOf ms images = cc in
     let now = loaded_at ram image other.placed.code_base in
     let count : length now ≡ length ram = lengths ram image (at other) in
-    let beside : (at m + size m ≤ at other) ⊎ (at other + length image ≤ at m) = ⊎_elim (λ low. inl low) (λ high. inr (omega arith)) (All-head (LieApart m) other ms apart) in
+    let beside : (at m + size m ≤ at other) ⊎ (at other + length image ≤ at m) =
+    ⊎_elim (λ low. inl low) (λ high. inr (omega arith)) (All-head (LieApart m) other ms apart) in
     code_stays lengths stays now images ms m later (omega arith) (All-tail (LieApart m) other ms apart)
     ∙ range_stays lengths stays ram image (at other) (at m) (size m) inside beside
 
-images_stand : LengthStays → OthersStay → RangeIsWritten → (rs : List Region) (ram : List ℕ) (images : List (List ℕ)) (ms : List Module) → AreImagesOf ms images → All (λ m. at m + size m ≤ length ram) ms → AllPairs LieApart ms → images_in (record { regions = rs; bytes = with_images ram images ms }) ms ≡ images
+images_stand : LengthStays → OthersStay → RangeIsWritten → (rs : List Region) (ram : List ℕ) (images : List (List ℕ)) (ms : List Module) → AreImagesOf ms images
+    → All (λ m. at m + size m ≤ length ram) ms → AllPairs LieApart ms → images_in (record { regions = rs; bytes = with_images ram images ms }) ms ≡ images
 images_stand lengths stays written rs ram [] [] same inside apart = refl
 images_stand lengths stays written rs ram [] (m ∷ ms) same inside apart = absurd (cc)
 images_stand lengths stays written rs ram (image ∷ images) [] same inside apart = absurd (cc)
@@ -64,7 +67,8 @@ images_stand lengths stays written rs ram (image ∷ images) (m ∷ ms) same ins
     let whole : slice_range now (at m) (at m + size m) ≡ image = subst (λ (n : ℕ). slice_range now (at m) (at m + n) ≡ image) here stands in
     ap (λ (x : List ℕ). x ∷ images_in (record { regions = rs; bytes = last }) ms) (kept ∙ whole) ∙ ap (λ (xs : List (List ℕ)). image ∷ xs) rest
 
-pub images_loaded : LengthStays → OthersStay → RangeIsWritten → (ram : ℕ) (images : List (List ℕ)) (ms : List Module) → AreLaid (memory_with ram images ms) ms → AreImagesOf ms images → images_in (memory_with ram images ms) ms ≡ images
+pub images_loaded : LengthStays → OthersStay → RangeIsWritten → (ram : ℕ) (images : List (List ℕ)) (ms : List Module) → AreLaid (memory_with ram images ms) ms
+    → AreImagesOf ms images → images_in (memory_with ram images ms) ms ≡ images
 images_loaded lengths stays written ram images ms laid same =
     let blank : List ℕ = replicate ram 0 in
     let bytes : List ℕ = with_images blank images ms in
@@ -72,7 +76,8 @@ images_loaded lengths stays written ram images ms laid same =
     let many : length blank ≡ ram = length-replicate ram 0 in
     let range : (k : ℕ) (d : Module) → k < length ms → IsRangeInRam bytes (get_or ms k d).placed.code_base (size (get_or ms k d)) =
     λ k d below. (each_code (IsInRam bytes) ms k d laid.memory.in_ram below).range in
-    let inside : All (λ m. at m + size m ≤ length blank) ms = λ k d below. let from = (range k d below).from_base in let to = (range k d below).to_end in omega arith in
+    let inside : All (λ m. at m + size m ≤ length blank) ms =
+    λ k d below. let from = (range k d below).from_base in let to = (range k d below).to_end in omega arith in
     let apart : AllPairs LieApart ms = λ i j d order below.
     let i_below : i < length ms = omega arith in
     let first = (range i d i_below).from_base in

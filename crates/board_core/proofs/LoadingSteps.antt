@@ -36,7 +36,8 @@ as_many vs rows same =
     ∙ (ap (λ (ns : List ℕ). length ns) (sym same) ∙ (length-map (contents vs) length ∙ length-map vs (λ (v : Vec ℕ Global). v.items))))
 
 -- an image is as long as its module's code
-image_length : (vs : List (Vec ℕ Global)) (rows : List Row) (i : ℕ) (v : Vec ℕ Global) (d : Row) → AreImagesOf (map loaded rows) (contents vs) → i < length vs → v ≡ get_or vs i v → length v.items ≡ (get_or rows i d).0.code_size
+image_length : (vs : List (Vec ℕ Global)) (rows : List Row) (i : ℕ) (v : Vec ℕ Global) (d : Row) → AreImagesOf (map loaded rows) (contents vs) → i < length vs
+    → v ≡ get_or vs i v → length v.items ≡ (get_or rows i d).0.code_size
 image_length vs rows i v d same below is =
     let images = contents vs in
     let ms = map loaded rows in
@@ -46,7 +47,8 @@ image_length vs rows i v d same below is =
     let image_below : i < length images = omega arith in
     let ms_many : length ms ≡ length rows = length-map rows loaded in
     let ms_below : i < length ms = omega arith in
-    let image : get_or images i v.items ≡ v.items = get_or-map (λ (v : Vec ℕ Global). v.items) vs i v v.items below ∙ ap (λ (w : Vec ℕ Global). w.items) (sym is) in
+    let image : get_or images i v.items ≡ v.items =
+    get_or-map (λ (v : Vec ℕ Global). v.items) vs i v v.items below ∙ ap (λ (w : Vec ℕ Global). w.items) (sym is) in
     let row : get_or ms i (loaded d) ≡ loaded (get_or rows i d) = get_or-map loaded rows i d (loaded d) row_below in
     ap (λ (bytes : List ℕ). length bytes) (sym image)
     ∙ (sym (get_or-map length images i v.items 0 image_below)
@@ -54,7 +56,9 @@ image_length vs rows i v d same below is =
     ∙ (get_or-map (λ m. (want_of m.preamble).code) ms i (loaded d) 0 ms_below ∙ ap (λ (m : Module). (want_of m.preamble).code) row)))
 
 -- and has room in RAM at its module's code
-pub image_fits : LengthStays → (size : ℕ) (vs : List (Vec ℕ Global)) (rows : List Row) (ram : List ℕ) (i : ℕ) (v : Vec ℕ Global) (d : Row) → AreLaid (memory_with size (contents vs) (map loaded rows)) (map loaded rows) → AreImagesOf (map loaded rows) (contents vs) → length ram ≡ size → i < length vs → v ≡ get_or vs i v → IsInRam ram (get_or rows i d).1.code_base (length v.items)
+pub image_fits : LengthStays → (size : ℕ) (vs : List (Vec ℕ Global)) (rows : List Row) (ram : List ℕ) (i : ℕ) (v : Vec ℕ Global) (d : Row)
+    → AreLaid (memory_with size (contents vs) (map loaded rows)) (map loaded rows) → AreImagesOf (map loaded rows) (contents vs) → length ram ≡ size
+    → i < length vs → v ≡ get_or vs i v → IsInRam ram (get_or rows i d).1.code_base (length v.items)
 image_fits lengths size vs rows ram i v d laid same sized below is =
     let ms = map loaded rows in
     let many = as_many vs rows same in
@@ -70,7 +74,10 @@ image_fits lengths size vs rows ram i v d laid same sized below is =
     let long = image_length vs rows i v d same below is in
     record { from_base = low; to_end = omega arith }
 
-pub images_more : (ram : List ℕ) (vs : List (Vec ℕ Global)) (rows : List Row) (i : ℕ) (v : Vec ℕ Global) (d : Row) → i < length vs → v ≡ get_or vs i v → i < length rows → with_images ram (contents (drop i vs)) (map loaded (drop i rows)) ≡ with_images (loaded_at ram v.items (get_or rows i d).1.code_base) (contents (drop (i + 1) vs)) (map loaded (drop (i + 1) rows))
+pub images_more : (ram : List ℕ) (vs : List (Vec ℕ Global)) (rows : List Row) (i : ℕ) (v : Vec ℕ Global) (d : Row)
+    → i < length vs → v ≡ get_or vs i v → i < length rows
+    → with_images ram (contents (drop i vs)) (map loaded (drop i rows))
+    ≡ with_images (loaded_at ram v.items (get_or rows i d).1.code_base) (contents (drop (i + 1) vs)) (map loaded (drop (i + 1) rows))
 images_more ram vs rows i v d below is row_below =
     ap (λ (images : List (List ℕ)). with_images ram images (map loaded (drop i rows))) (contents_here vs i v below is)
     ∙ ap (λ (rs : List Row). with_images ram (v.items ∷ contents (drop (i + 1) vs)) (map loaded rs)) (drop_more rows i d row_below)
@@ -88,7 +95,8 @@ none_from p xs d (Some i) is fails =
     absurd (both_ways (p (get_or xs i d)) (fails i d found.0) found.1)
 
 -- the next of regions that don't meet is added
-next_is_added : (bytes : List ℕ) (rs : List Region) (i : ℕ) (d : Region) → IsSound (record { regions = rs; bytes = bytes }) → i < length rs → add_answer (record { regions = take i rs; bytes = bytes }) (get_or rs i d) ≡ Ok tt
+next_is_added : (bytes : List ℕ) (rs : List Region) (i : ℕ) (d : Region) → IsSound (record { regions = rs; bytes = bytes }) → i < length rs
+    → add_answer (record { regions = take i rs; bytes = bytes }) (get_or rs i d) ≡ Ok tt
 next_is_added bytes rs i d sound below =
     let r = get_or rs i d in
     let front = take i rs in
@@ -103,11 +111,15 @@ next_is_added bytes rs i d sound below =
     let none : position (meets r) front ≡ None = none_from (meets r) front d (position (meets r) front) refl fails in
     ap (λ (b : Bool). if b then Err Full else unless_met (position (meets r) front)) room ∙ ap unless_met none
 
-pub added : (g now : Memory) (bytes : List ℕ) (rs : List Region) (i : ℕ) (d : Region) (answer : Result (Unit {0}) AddErr) → IsSound (record { regions = rs; bytes = bytes }) → i < length rs → g ≡ record { regions = take i rs; bytes = bytes } → answer ≡ add_answer g (get_or rs i d) → now ≡ after_add g (get_or rs i d) answer → (answer ≡ Ok tt) × (now ≡ record { regions = take (i + 1) rs; bytes = bytes })
+pub added : (g now : Memory) (bytes : List ℕ) (rs : List Region) (i : ℕ) (d : Region) (answer : Result (Unit {0}) AddErr)
+    → IsSound (record { regions = rs; bytes = bytes }) → i < length rs → g ≡ record { regions = take i rs; bytes = bytes }
+    → answer ≡ add_answer g (get_or rs i d) → now ≡ after_add g (get_or rs i d) answer
+    → (answer ≡ Ok tt) × (now ≡ record { regions = take (i + 1) rs; bytes = bytes })
 added g now bytes rs i d answer sound below before given after =
     let r = get_or rs i d in
     let ok : answer ≡ Ok tt = given ∙ (ap (λ (h : Memory). add_answer h r) before ∙ next_is_added bytes rs i d sound below) in
-    let stepped : now ≡ record { regions = take i rs ++ r ∷ []; bytes = bytes } = after ∙ (ap (after_add g r) ok ∙ ap (λ (h : Memory). after_add h r (Ok tt)) before) in
+    let stepped : now ≡ record { regions = take i rs ++ r ∷ []; bytes = bytes } =
+    after ∙ (ap (after_add g r) ok ∙ ap (λ (h : Memory). after_add h r (Ok tt)) before) in
     (ok, stepped ∙ ap (λ (q : List Region). let h : Memory = record { regions = q; bytes = bytes } in h) (sym (take_more rs i d below)))
 
 -- what modules are made of, where they are loaded

@@ -22,13 +22,13 @@ use Rattle.board_core.specs.Bus.{seen}
 use Rattle.board_core.specs.Laws.{ImagesStay, IsWorld, OwnersStay, RegionsStay}
 use Rattle.board_core.specs.Machine.{shown}
 use Rattle.board_core.specs.After.{after}
-use Rattle.board_core.specs.Step.{after_effect, next_effect, ran_on, with_hart}
+use Rattle.board_core.specs.Step.{after_effect, next_effect, ran_on}
 use Rattle.board_core.specs.World.{World}
 use Rattle.board_core.specs.declared.devices.Device.{Device}
 use Rattle.board_core.specs.declared.parts.Parts.{Parts}
 use Rattle.board_core.proofs.BurstSteps.{Ends, burst_ends}
 use Rattle.board_core.proofs.Running.{running_below, stepped_idle, stepped_is, thread-with_hart}
-use Rattle.board_core.proofs.Standing.{Keeps, Leads, counted, effect_devices, effect_modules, event_leads, leads_on, nothing_leads}
+use Rattle.board_core.proofs.Standing.{Keeps, Leads, counted, effect_count, effect_devices, event_leads, leads_on, nothing_leads}
 use Rattle.board_core.proofs.Steps.{with_hart-same, with_hart-twice}
 
 -- the laws that a step rests on
@@ -179,7 +179,8 @@ made_leads_by laws w t n b (Some e) world runs ends leads kernel memory =
     let p = after_effect v.parts t e in
     let now = after_made w (made_by w.parts t b (Some e)) in
     let effect : next_effect v.parts t ≡ e =
-    ap (λ (u : Thread). executed (seen u.module b.memory) u.hart) (thread-with_hart w.parts.kernel t b.hart world.kernel (below laws w t world runs)) ∙ ends.1 in
+    ap (λ (u : Thread). executed (seen u.module b.memory) u.hart) (thread-with_hart w.parts.kernel t b.hart world.kernel (below laws w t world runs))
+    ∙ ends.1 in
     let is : after v Step ≡ now =
     step_is laws v t leads.world runs e effect ∙ ap (λ s. record w { parts = p; steps = s }) (omega arith) in
     let devices = effect_devices v.parts t e in
@@ -187,7 +188,7 @@ made_leads_by laws w t n b (Some e) world runs ends leads kernel memory =
       board = world.board;
       kernel = kernel;
       memory = memory;
-      modules = effect_modules v.parts t e ∙ world.modules;
+      modules = effect_count v.parts t e ∙ world.modules;
       devices = ap (λ (ds : List Device). length ds) devices ∙ world.devices;
       taken = subst (λ (ds : List Device). All (λ d. d.taken ≤ w.irqs) ds) (sym devices) world.taken;
     } in
@@ -235,3 +236,15 @@ some_made_of n p (Some t) some =
 
 pub some_made : (n : ℕ) (p : Parts) → 0 < n → (0 < (made n p).steps) × ((made n p).steps ≤ n)
 some_made n p some = some_made_of n p p.kernel.ready.run some
+
+-- nothing is taken of a device by it
+made_by_devices : (p : Parts) (t : ℕ) (b : Burst) (end : Option Effect) → (made_by p t b end).parts.devices ≡ p.devices
+made_by_devices p t b None = refl
+made_by_devices p t b (Some e) = effect_devices (ran_on p t b.hart b.memory) t e
+
+made_of_devices : (n : ℕ) (p : Parts) (run : Option ℕ) → (made_of n p run).parts.devices ≡ p.devices
+made_of_devices n p None = refl
+made_of_devices n p (Some t) = let b = burst_of p t n in made_by_devices p t b b.end
+
+pub made_devices : (n : ℕ) (p : Parts) → (made n p).parts.devices ≡ p.devices
+made_devices n p = made_of_devices n p p.kernel.ready.run

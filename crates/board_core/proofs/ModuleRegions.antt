@@ -28,12 +28,14 @@ pub length_regions : (i : ℕ) (ms : List Module) → length (regions_of i ms) �
 length_regions i [] = refl
 length_regions i (m ∷ ms) = ap (λ n. suc (suc n)) (length_regions (i + 1) ms)
 
-code_at : (i j k : ℕ) (ms : List Module) (d : Region) (e : Module) → i + k ≡ j → k < length ms → get_or (regions_of i ms) (twice k) d ≡ code_region j (get_or ms k e)
+code_at : (i j k : ℕ) (ms : List Module) (d : Region) (e : Module) → i + k ≡ j → k < length ms
+    → get_or (regions_of i ms) (twice k) d ≡ code_region j (get_or ms k e)
 code_at i j k [] d e same below = absurd (omega arith)
 code_at i j zero (m ∷ ms) d e same below = let here : i ≡ j = omega arith in ap (λ n. code_region n m) here
 code_at i j (suc k) (m ∷ ms) d e same below = code_at (i + 1) j k ms d e (omega arith) (omega arith)
 
-data_at : (i j k : ℕ) (ms : List Module) (d : Region) (e : Module) → i + k ≡ j → k < length ms → get_or (regions_of i ms) (suc (twice k)) d ≡ data_region j (get_or ms k e)
+data_at : (i j k : ℕ) (ms : List Module) (d : Region) (e : Module) → i + k ≡ j → k < length ms
+    → get_or (regions_of i ms) (suc (twice k)) d ≡ data_region j (get_or ms k e)
 data_at i j k [] d e same below = absurd (omega arith)
 data_at i j zero (m ∷ ms) d e same below = let here : i ≡ j = omega arith in ap (λ n. data_region n m) here
 data_at i j (suc k) (m ∷ ms) d e same below = data_at (i + 1) j k ms d e (omega arith) (omega arith)
@@ -77,13 +79,15 @@ swapped r s apart = ⊎_elim (λ low. inr low) (λ high. inl high) apart
 abbrev pub NoneMeet : List Region → Type 0
 NoneMeet rs = AllPairs (λ earlier later. meets later earlier ≡ false) rs
 
-apart_at : (rs : List Region) (x y : ℕ) (d : Region) → NoneMeet rs → (x < y) ⊎ (y < x) → x < length rs → y < length rs → AreApart (get_or rs x d) (get_or rs y d)
+apart_at : (rs : List Region) (x y : ℕ) (d : Region) → NoneMeet rs → (x < y) ⊎ (y < x) → x < length rs → y < length rs
+    → AreApart (get_or rs x d) (get_or rs y d)
 apart_at rs x y d unmet order x_in y_in =
     ⊎_elim (λ before. swapped (get_or rs y d) (get_or rs x d) (apart_from (get_or rs y d) (get_or rs x d) (unmet x y d before y_in)))
     (λ behind. apart_from (get_or rs x d) (get_or rs y d) (unmet y x d behind x_in)) order
 
 -- the codes of two modules lie apart, and so do a module's data and any module's code
-pub codes_apart : (ms : List Module) (i j : ℕ) (e : Module) → NoneMeet (regions_of 0 ms) → i < j → j < length ms → AreApart (code_region i (get_or ms i e)) (code_region j (get_or ms j e))
+pub codes_apart : (ms : List Module) (i j : ℕ) (e : Module) → NoneMeet (regions_of 0 ms) → i < j → j < length ms
+    → AreApart (code_region i (get_or ms i e)) (code_region j (get_or ms j e))
 codes_apart ms i j e unmet order below =
     let d = code_region j (get_or ms j e) in
     let i_below : i < length ms = omega arith in
@@ -96,7 +100,8 @@ odd_or_even : (i j : ℕ) → (suc (twice i) < twice j) ⊎ (twice j < suc (twic
 odd_or_even i j =
     ⊎_elim (λ below. inl (omega (arith, twice_is i, twice_is j))) (λ above. inr (omega (arith, twice_is i, twice_is j))) (cases_lt i j)
 
-pub data_beside_code : (ms : List Module) (i j : ℕ) (e : Module) → NoneMeet (regions_of 0 ms) → i < length ms → j < length ms → AreApart (data_region i (get_or ms i e)) (code_region j (get_or ms j e))
+pub data_beside_code : (ms : List Module) (i j : ℕ) (e : Module) → NoneMeet (regions_of 0 ms) → i < length ms → j < length ms
+    → AreApart (data_region i (get_or ms i e)) (code_region j (get_or ms j e))
 data_beside_code ms i j e unmet i_below j_below =
     let d = code_region j (get_or ms j e) in
     let apart = apart_at (regions_of 0 ms) (suc (twice i)) (twice j) d unmet (odd_or_even i j) (data_below ms i i_below) (code_below ms j j_below) in
@@ -112,14 +117,17 @@ is_bit i =
 lets_own : (i : ℕ) (m : Module) → lets i Store m.placed.data_base (want_of m.preamble).data_bytes (data_region i m) ≡ true
 lets_own i m =
     let r = data_region i m in
-    let covered = and_from (nat_le r.base r.base) (nat_le (r.base + r.size) (r.base + r.size)) (le-leb r.base r.base (omega arith)) (le-leb (r.base + r.size) (r.base + r.size) (omega arith)) in
+    let covered =
+    and_from (nat_le r.base r.base) (nat_le (r.base + r.size) (r.base + r.size)) (le-leb r.base r.base (omega arith))
+    (le-leb (r.base + r.size) (r.base + r.size) (omega arith)) in
     let given = and_from (covers r r.base r.size) (gives r.rights Store) covered refl in
     and_from (covers r r.base r.size && gives r.rights Store) (is_for i r) given (eq-eqb (bits (2 ^ i) i 1) 1 (is_bit i))
 
 abbrev blank : Module
 blank = loaded (words_of [], record { code_base = 0; data_base = 0 })
 
-pub own_data : (g : Memory) (ms : List Module) (i : ℕ) → g.regions ≡ regions_of 0 ms → i < length ms → may g i Store (module_at ms i).placed.data_base (want_of (module_at ms i).preamble).data_bytes ≡ true
+pub own_data : (g : Memory) (ms : List Module) (i : ℕ) → g.regions ≡ regions_of 0 ms → i < length ms
+    → may g i Store (module_at ms i).placed.data_base (want_of (module_at ms i).preamble).data_bytes ≡ true
 own_data g ms i same below =
     let m = module_at ms i in
     let n = (want_of m.preamble).data_bytes in

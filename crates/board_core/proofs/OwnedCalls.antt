@@ -42,7 +42,8 @@ abbrev pub OwnedAfter : List Module → Outcome → Type 0
 OwnedAfter ms o = Owned ms o.kernel
 
 -- the parts of a row
-unless_owned : (ms : List Module) (k : Kernel) (g : Memory) (r : Option ℕ) (change : Outcome) → Owned ms k → OwnedAfter ms change → OwnedAfter ms (unless k g r change)
+unless_owned : (ms : List Module) (k : Kernel) (g : Memory) (r : Option ℕ) (change : Outcome) → Owned ms k → OwnedAfter ms change
+    → OwnedAfter ms (unless k g r change)
 unless_owned ms k g None change before after = after
 unless_owned ms k g (Some c) change before after = before
 
@@ -83,7 +84,8 @@ reserved_used slots r m kind o is =
 -- changes of threads alone
 suspended_owned : (ms : List Module) (k : Kernel) (t : ℕ) → Owned ms k → Owned ms (suspended k t)
 suspended_owned ms k t before =
-    cond_both (is_state (thread k t).state Ready) _ _ (Owned ms) (λ _. before) (λ _. cond_both (is_waiting (thread k t).state) _ k (Owned ms) (λ _. before) (λ _. before))
+    cond_both (is_state (thread k t).state Ready) _ _ (Owned ms) (λ _. before)
+    (λ _. cond_both (is_waiting (thread k t).state) _ k (Owned ms) (λ _. before) (λ _. before))
 
 pub ended_owned : (ms : List Module) (k : Kernel) (t : ℕ) (state : State) → Owned ms k → Owned ms (ended k t state)
 ended_owned ms k t state before = cond_both (is_over (thread k t).state) k _ (Owned ms) (λ _. before) (λ _. before)
@@ -94,7 +96,8 @@ resumption_owned ms k g t before = cond_both (thread k t).held _ _ (OwnedAfter m
 
 -- the services, a lemma for each
 module _ (ms : List Module) (k : Kernel) (g : Memory) (by : ℕ) (a : List ℕ) (before : Owned ms k) where
-  thread_found_owned : (change : ℕ → Outcome) → ((t : ℕ) → OwnedAfter ms (change t)) → OwnedAfter ms (found k g thread_error (named k by (arg a 0) Thread) change)
+  thread_found_owned : (change : ℕ → Outcome) → ((t : ℕ) → OwnedAfter ms (change t))
+      → OwnedAfter ms (found k g thread_error (named k by (arg a 0) Thread) change)
   thread_found_owned change after = found_owned ms k g thread_error (named k by (arg a 0) Thread) change before (λ t _. after t)
 
   object_allocate_owned : IsStarted ms (module_of k by) → OwnedAfter ms (object_allocate_row k g by a)
@@ -116,7 +119,8 @@ module _ (ms : List Module) (k : Kernel) (g : Memory) (by : ℕ) (a : List ℕ) 
       found_owned ms k g option_error (kind_of (arg a 0)) _ before (λ kind _.
       given_owned ms k g (name_at g (module_of k by) (arg a 1)) _ before (λ name.
       unless_owned ms k g _ _ before
-      (found_owned ms k g no_instance (position (has_name kind name) k.objects) _ before (λ o _. granted_owned ms k.objects (module_of k by) o before started))))
+      (found_owned ms k g no_instance (position (has_name kind name) k.objects) _ before
+      (λ o _. granted_owned ms k.objects (module_of k by) o before started))))
 
   created_owned : (o : ℕ) (name : List ℕ) → is_in Free (slot k.objects o) ≡ false → Owned ms (created k by o name (block_at g (arg a 2)))
   unfolding created

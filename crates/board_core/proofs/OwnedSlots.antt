@@ -44,7 +44,8 @@ allocated_owned_at ms slots m kind (Some o) all started =
     owned_with ms slots o (allocated m kind (slot slots o)) all
     (record { owner = λ used. started; grants = none_granted ms (allocated m kind (slot slots o)) refl })
 
-pub allocated_owned : (ms : List Module) (slots : List Slot) (m : ℕ) (kind : Kind) → AreOwned ms slots → IsStarted ms m → AreOwned ms (after_allocate slots m kind)
+pub allocated_owned : (ms : List Module) (slots : List Slot) (m : ℕ) (kind : Kind) → AreOwned ms slots → IsStarted ms m
+    → AreOwned ms (after_allocate slots m kind)
 allocated_owned ms slots m kind all started = allocated_owned_at ms slots m kind _ all started
 
 -- a used slot gets an object, or loses it
@@ -54,7 +55,8 @@ live_owned ms slots o name all used =
     let before = owned_at ms slots o all in
     owned_with ms slots o _ all (record { owner = λ _. before.owner used; grants = before.grants })
 
-pub emptied_owned : (ms : List Module) (slots : List Slot) (o : ℕ) → AreOwned ms slots → is_in Free (slot slots o) ≡ false → AreOwned ms (after_make_empty slots o)
+pub emptied_owned : (ms : List Module) (slots : List Slot) (o : ℕ) → AreOwned ms slots → is_in Free (slot slots o) ≡ false
+    → AreOwned ms (after_make_empty slots o)
 emptied_owned ms slots o all used =
     let now : Slot = record (slot slots o) { state = Empty; grants = 0; name = [] } in
     owned_with ms slots o now all (record { owner = λ _. (owned_at ms slots o all).owner used; grants = none_granted ms now refl })
@@ -76,7 +78,8 @@ granted_owned ms slots m o all started =
       owner = before.owner;
       grants = λ j granted.
           ⊎_elim (λ (same : j ≡ m). subst (IsStarted ms) (sym same) started)
-          (λ other. before.grants j (ap (λ b. b == 1) (one_more s.grants m j (eqb-true (bit_at (bit_or s.grants (2 ^ m)) j) 1 granted) other))) (same_or_other j m);
+          (λ other. before.grants j (ap (λ b. b == 1) (one_more s.grants m j (eqb-true (bit_at (bit_or s.grants (2 ^ m)) j) 1 granted) other)))
+          (same_or_other j m);
     })
 
 -- a grant ends
@@ -85,7 +88,8 @@ ended_grant m s j =
     cond_both (is_granted m s) (record s { grants = s.grants - 2 ^ m }) s (λ (x : Slot). is_granted j x ≡ true → is_granted j s ≡ true)
     (λ has left.
     ⊎_elim (λ (same : j ≡ m). subst (λ i. is_granted i s ≡ true) (sym same) has)
-    (λ other. ap (λ b. b == 1) (sym (others_stay s.grants m j (eqb-true (bit_at s.grants m) 1 has) other) ∙ eqb-true (bit_at (s.grants - 2 ^ m) j) 1 left)) (same_or_other j m))
+    (λ other. ap (λ b. b == 1) (sym (others_stay s.grants m j (eqb-true (bit_at s.grants m) 1 has) other) ∙ eqb-true (bit_at (s.grants - 2 ^ m) j) 1 left))
+    (same_or_other j m))
     (λ has_not left. left)
 
 without_grant-owner : (m : ℕ) (s : Slot) → (without_grant m s).owner ≡ s.owner

@@ -58,12 +58,14 @@ next_used k m some =
 placed_owned : (ms : List Module) (k : Kernel) (name : List ℕ) (s : ThreadSpec) → 1 ≤ usable_slots k → Owned ms k → IsStarted ms s.module
     → Owned ms (in_new_slot k name s)
 placed_owned ms k name s some before started =
-    live_owned ms (after_allocate k.objects s.module Thread) (next_slot k) name (allocated_owned ms k.objects s.module Thread before started) (next_used k s.module some)
+    live_owned ms (after_allocate k.objects s.module Thread) (next_slot k) name (allocated_owned ms k.objects s.module Thread before started)
+    (next_used k s.module some)
 
 -- and then all but one of the others are still usable
 one_less : (p : Slot → Bool) (xs : List Slot) (i : ℕ) (y : Slot) → i < length xs → length (filter p xs) ≤ length (filter p (slice_set xs i y)) + 1
 one_less p xs i y inside =
-    let sums : count_by p (slice_set xs i y) + cond (p (slot xs i)) 1 0 ≡ count_by p xs + cond (p y) 1 0 = sum_by-set (λ (x : Slot). cond (p x) 1 0) xs i y (free_slot 0) inside in
+    let sums : count_by p (slice_set xs i y) + cond (p (slot xs i)) 1 0 ≡ count_by p xs + cond (p y) 1 0 =
+    sum_by-set (λ (x : Slot). cond (p x) 1 0) xs i y (free_slot 0) inside in
     let most : (b : Bool) → cond b 1 0 ≤ 1 = λ b. elim b as (λ c. cond c 1 0 ≤ 1) [ true ↦ omega arith | false ↦ omega arith ] in
     omega (arith, sums, most (p (slot xs i)), length-filter p xs, length-filter p (slice_set xs i y))
 
@@ -77,7 +79,8 @@ another_usable k name s two =
     let is : table ≡ slice_set k.objects o taken = ap (allocated_at k.objects s.module Thread) (next_found k some) in
     let first = one_less is_usable k.objects o taken inside in
     let placed : Slot = record (slot table o) { state = Live; name = name } in
-    let stays : (slice_set table o placed) ≡ slice_set k.objects o placed = ap (λ (slots : List Slot). slice_set slots o placed) is ∙ set-set k.objects o taken placed in
+    let stays : (slice_set table o placed) ≡ slice_set k.objects o placed =
+    ap (λ (slots : List Slot). slice_set slots o placed) is ∙ set-set k.objects o taken placed in
     let second = one_less is_usable k.objects o placed inside in
     subst (λ (slots : List Slot). 1 ≤ length (filter is_usable slots)) (sym stays) (omega (arith, second, two))
 
@@ -93,9 +96,11 @@ both_owned ms k m r two before started =
     placed_owned ms one callback_name (callback_spec m r) (another_usable k start_name (start_spec m r) two)
     (placed_owned ms k start_name (start_spec m r) (omega arith) before started) started
 
-begun_owned : (ms : List Module) (k : Kernel) (m : ℕ) (r : Module) → slots_needed r.preamble ≤ usable_slots k → Owned ms k → IsStarted ms m → Owned ms (begun k m r)
+begun_owned : (ms : List Module) (k : Kernel) (m : ℕ) (r : Module) → slots_needed r.preamble ≤ usable_slots k → Owned ms k → IsStarted ms m
+    → Owned ms (begun k m r)
 begun_owned ms k m r =
-    elim (has_callback r.preamble) as (λ b. cond b 2 1 ≤ usable_slots k → Owned ms k → IsStarted ms m → Owned ms (cond b (begun_both k m r) (begun_alone k m r))) [
+    elim (has_callback r.preamble) as
+    (λ b. cond b 2 1 ≤ usable_slots k → Owned ms k → IsStarted ms m → Owned ms (cond b (begun_both k m r) (begun_alone k m r))) [
       | true ↦ both_owned ms k m r
       | false ↦ alone_owned ms k m r
     ]
@@ -113,14 +118,16 @@ started_more ms m n inside started =
 abbrev OwnedParts : Parts → Type 0
 OwnedParts p = AreOwned p.modules p.kernel.objects
 
-start_owned : (ms : List Module) (k : Kernel) (g : Memory) (m : ℕ) → m < length ms → Owned ms k → AreOwned (start_row ms k g m).modules (start_row ms k g m).kernel.objects
+start_owned : (ms : List Module) (k : Kernel) (g : Memory) (m : ℕ) → m < length ms → Owned ms k
+    → AreOwned (start_row ms k g m).modules (start_row ms k g m).kernel.objects
 unfolding start_row
 start_owned ms k g m inside before =
     let r = module_at ms m in
     let now = with_state ms m Started in
     cond_both (can_start k r) _ _ (λ (o : StartOutcome). AreOwned o.modules o.kernel.objects)
     (λ can.
-    let enough = leb-true (slots_needed r.preamble) (usable_slots k) (and_parts (may_start r.state) (nat_le (slots_needed r.preamble) (usable_slots k)) can).1 in
+    let enough =
+    leb-true (slots_needed r.preamble) (usable_slots k) (and_parts (may_start r.state) (nat_le (slots_needed r.preamble) (usable_slots k)) can).1 in
     begun_owned now k m r enough
     (All-weaker (IsOwned ms) (IsOwned now) (λ (s : Slot) (own : IsOwned ms s). record {
       owner = λ used. started_more ms m s.owner inside (own.owner used);

@@ -15,9 +15,9 @@ use Rattle.ready_maps.specs.Kept.{IsKept}
 use Rattle.ready_maps.specs.Sched.{Sched, pr}
 use Rattle.board_file.specs.Rules.{IsShow}
 use Rattle.board_core.specs.Laws.{IsWorld}
-use Rattle.board_core.specs.Report.{device_row, module_row, report_of, show_at, show_cell, show_row, some, thread_row}
+use Rattle.board_core.specs.Report.{device_row, module_row, report_of, show_at, show_cell, show_row, rows_found, thread_row}
 use Rattle.board_core.specs.World.{World}
-use Rattle.board_core.proofs.Lists.{All-each, All-some, length-each, length-some}
+use Rattle.board_core.proofs.Lists.{All-rows_below, All-rows_found, length-rows_below, length-rows_found}
 
 -- the others of a list
 abbrev others : ℕ → List ℕ → List ℕ
@@ -85,21 +85,21 @@ few_cells : (w : World) → IsWorld w → (i : ℕ) → i < length w.board.shows
 few_cells w world i low =
     let s = show_at w.board i in
     let show : IsShow (length w.board.modules) s = world.board.shown i _ low in
-    omega (arith, length-each s.words (λ j. show_cell w.parts.memory (module_at w.parts.modules s.module) (s.offset + 4 * j)), show.few_words)
+    omega (arith, length-rows_below s.words (λ j. show_cell w.parts.memory (module_at w.parts.modules s.module) (s.offset + 4 * j)), show.few_words)
 
 -- the report on a world, where its holders have their numbers and its threads their registers
 pub report_is_printable : (w : World) → IsWorld w → All (λ n. n < 256) w.parts.kernel.ready.held
-    → All (λ (t : ThreadRow). length t.regs ≡ 31) (some (length w.parts.kernel.objects) (thread_row w.parts.kernel)) → IsPrintable (report_of w)
+    → All (λ (t : ThreadRow). length t.regs ≡ 31) (rows_found (length w.parts.kernel.objects) (thread_row w.parts.kernel)) → IsPrintable (report_of w)
 unfolding report_of
 report_is_printable w world small regs = record {
   held = held_numbers w.parts.kernel.ready world.kernel.scheduler small;
   ready = ready_numbers w.parts.kernel.ready world.kernel.scheduler;
-  modules = omega (arith, length-each (length w.parts.modules) (module_row w.board w.parts.modules), world.modules, world.board.modules);
-  threads = omega (arith, length-some (length w.parts.kernel.objects) (thread_row w.parts.kernel), world.kernel.slots);
+  modules = omega (arith, length-rows_below (length w.parts.modules) (module_row w.board w.parts.modules), world.modules, world.board.modules);
+  threads = omega (arith, length-rows_found (length w.parts.kernel.objects) (thread_row w.parts.kernel), world.kernel.slots);
   regs = regs;
-  objects = omega (arith, length-some (length w.parts.kernel.objects) (object_row w.parts.kernel), world.kernel.slots);
-  waits = All-some (λ (r : ObjectRow). IsNumbers r.waits) (length w.parts.kernel.objects) (object_row w.parts.kernel) (object_waits w.parts.kernel);
-  devices = omega (arith, length-each (length w.parts.devices) (device_row w.board w.parts.devices), world.devices, world.board.devices);
-  shows = omega (arith, length-each (length w.board.shows) (show_row w.board w.parts.memory w.parts.modules), world.board.shows);
-  cells = All-each (λ (s : ShowRow). length s.cells ≤ 64) (length w.board.shows) (show_row w.board w.parts.memory w.parts.modules) (few_cells w world);
+  objects = omega (arith, length-rows_found (length w.parts.kernel.objects) (object_row w.parts.kernel), world.kernel.slots);
+  waits = All-rows_found (λ (r : ObjectRow). IsNumbers r.waits) (length w.parts.kernel.objects) (object_row w.parts.kernel) (object_waits w.parts.kernel);
+  devices = omega (arith, length-rows_below (length w.parts.devices) (device_row w.board w.parts.devices), world.devices, world.board.devices);
+  shows = omega (arith, length-rows_below (length w.board.shows) (show_row w.board w.parts.memory w.parts.modules), world.board.shows);
+  cells = All-rows_below (λ (s : ShowRow). length s.cells ≤ 64) (length w.board.shows) (show_row w.board w.parts.memory w.parts.modules) (few_cells w world);
 }

@@ -19,7 +19,7 @@ use Rattle.board_core.specs.declared.parts.Parts.{Parts}
 use Rattle.board_core.proofs.Frames.{Lower, event_within}
 
 -- what holds of the modules, and also with another state of one of them, holds of them after an event
-effect_modules : (p : Parts) (t : ℕ) (e : Effect) (P : List Module → Type 0) → P p.modules
+pub effect_modules : (p : Parts) (t : ℕ) (e : Effect) (P : List Module → Type 0) → P p.modules
     → ((m : ℕ) (state : ModuleState) → P (with_state p.modules m state)) → P (after_effect p t e).modules
 unfolding after_fault
 effect_modules p t (Completes h) P same changed = same
@@ -32,18 +32,18 @@ step_modules : (p : Parts) (run : Option ℕ) (P : List Module → Type 0) → P
 step_modules p None P same changed = same
 step_modules p (Some t) P same changed = effect_modules p t (next_effect p t) P same changed
 
-acted_modules : (p : Parts) (action : Action) (target : List ℕ) (word : ℕ) (P : List Module → Type 0) → P p.modules
-    → P (acted p action target word).parts.modules
+pub acted_modules : (p : Parts) (action : Action) (target : List ℕ) (word : ℕ) (P : List Module → Type 0) → P p.modules
+    → ((m : ℕ) (state : ModuleState) → P (with_state p.modules m state)) → P (acted p action target word).parts.modules
 unfolding resumed_by_name
-acted_modules p Resume target word P same = same
-acted_modules p _ target word P same = same
+acted_modules p Resume target word P same changed = same
+acted_modules p _ target word P same changed = same
 
 pub event_modules : (w : World) (e : Event) (P : List Module → Type 0) → P w.parts.modules
     → ((m : ℕ) (state : ModuleState) → P (with_state w.parts.modules m state)) → P (after w e).parts.modules
 unfolding stepped
 event_modules w Step P same changed = step_modules w.parts w.parts.kernel.ready.run P same changed
 event_modules w (Irq d word) P same changed =
-    acted_modules w.parts (device_of w.board d).action (device_of w.board d).target word P same
+    acted_modules w.parts (device_of w.board d).action (device_of w.board d).target word P same changed
 
 -- no region is of a state
 regions_of-with_state : (i : ℕ) (ms : List Module) (m : ℕ) (state : ModuleState) → regions_of i (with_state ms m state) ≡ regions_of i ms

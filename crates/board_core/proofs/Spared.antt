@@ -7,15 +7,17 @@ use Rattle.std.proofs.lemmas.List.Folds.{Any-from_list_any}
 use Rattle.std.proofs.lemmas.Nat.Bits.{bit_at-pow_other}
 use Rattle.std.specs.List.{Contains, list_any}
 use Rattle.flat_ram.specs.Laws.{IsOutside}
-use Rattle.region_guard.specs.Memory.{Memory, IsSound as IsSoundMemory, may}
+use Rattle.region_guard.specs.Memory.{Memory, IsSound as IsSoundMemory, byte, may}
 use Rattle.region_guard.specs.Region.{covers, gives, is_for, lets, meets}
 use Rattle.region_guard.specs.declared.region.Access.TheVariants.{Store}
 use Rattle.region_guard.specs.declared.region.Region.{Region}
 use Rattle.rv_core.specs.Execute.{Effect, Completes, Stores, Calls, Faults}
 use Rattle.rv_core.specs.Hart.{HartState}
+use Rattle.rv_core.specs.declared.bus.Cause.{Cause}
 use Rattle.event_log.specs.Events.{Event, Step, Irq}
 use Rattle.kernel_state.specs.Kernel.{thread, is_thread, module_of}
 use Rattle.kernel_state.specs.Laws.{RunningIsReady, ReadyIsThread}
+use Rattle.kernel_state.specs.Thread.{is_over}
 use Rattle.kernel_state.specs.declared.thread.Thread.{Thread}
 use Rattle.call_dispatch.specs.Ecall.{arguments, number_asked}
 use Rattle.call_dispatch.specs.Results.{Range, if_allowed, result_range}
@@ -25,11 +27,14 @@ use Rattle.module_manager.specs.Modules.{module_at}
 use Rattle.board_core.specs.Boot.{code_region, data_region}
 use Rattle.board_core.specs.Bus.{seen}
 use Rattle.board_core.specs.Frame.{IsOutsideAll, effect_frame, frame, if_any, step_frame}
-use Rattle.board_core.specs.Laws.{CodeIsInNoFrame, FaultKeepsBytes, FaultSparesOthers, IsWorld, OthersDataIsInNoFrame}
-use Rattle.board_core.specs.Step.{after_fault, next_effect, with_hart}
+use Rattle.board_core.specs.Laws.{CodeIsInNoFrame, DataIsItsModules, FaultKeepsBytes, FaultSparesOthers, IsDataOf, IsFaulting, IsWorld, Writes}
+use Rattle.board_core.specs.After.{after}
+use Rattle.board_core.specs.Step.{after_effect, stepped, stepped_by, after_fault, next_effect, with_hart}
 use Rattle.board_core.specs.declared.parts.Parts.{Parts}
 use Rattle.board_core.specs.World.{World}
 use Rattle.board_core.proofs.Effects.{IsAllowed, executed_allowed}
+use Rattle.board_core.proofs.Frames.{Lower, event_within, step_within}
+use Rattle.board_core.proofs.OwnedSlots.{same_or_other}
 use Rattle.board_core.proofs.Regions.{module_stands}
 use Rattle.board_core.proofs.Running.{running_below, stepped_is, thread-with_hart}
 
@@ -104,7 +109,8 @@ result_stored g m None = none_stored g m
 result_stored g m (Some r) =
     cond_both (may g m Store r.base r.size) (Some r) None (λ (o : Option Range). MayStore g m (if_any o)) (λ yes. one_stored g m r yes) (λ no. none_stored g m)
 
-call_stored : (w : World) (t : ℕ) (h : HartState) → IsWorld w → t < 256 → MayStore w.parts.memory (module_of w.parts.kernel t) (effect_frame w.parts t (Calls h))
+call_stored : (w : World) (t : ℕ) (h : HartState) → IsWorld w → t < 256
+    → MayStore w.parts.memory (module_of w.parts.kernel t) (effect_frame w.parts t (Calls h))
 call_stored w t h world below =
     let k = with_hart w.parts.kernel t h in
     let same : module_of k t ≡ module_of w.parts.kernel t = ap (λ (u : Thread). u.module) (thread-with_hart w.parts.kernel t h world.kernel below) in
@@ -132,36 +138,77 @@ step_spares is_ready is_thread w (Some t) r x world runs stands no_store from to
 event_spares : RunningIsReady → ReadyIsThread → (w : World) (e : Event) (r : Region) (x : ℕ) → IsWorld w
     → Contains w.parts.memory.regions r → ((t : ℕ) → w.parts.kernel.ready.run ≡ Some t → lets_store (module_of w.parts.kernel t) r ≡ false)
     → r.base ≤ x → x < r.base + r.size → IsOutsideAll (frame w e) x
-event_spares is_ready is_thread w Step r x world stands no_store from to = step_spares is_ready is_thread w w.parts.kernel.ready.run r x world refl stands no_store from to
+event_spares is_ready is_thread w Step r x world stands no_store from to =
+    step_spares is_ready is_thread w w.parts.kernel.ready.run r x world refl stands no_store from to
 event_spares is_ready is_thread w (Irq d word) r x world stands no_store from to = All-nil (λ (s : Range). IsOutside s.base s.size x)
 
 -- the regions of a module in memory
 pub module_in_memory : (w : World) (m : ℕ) → IsWorld w → m < length w.parts.modules
-    → Contains w.parts.memory.regions (code_region m (module_at w.parts.modules m)) × Contains w.parts.memory.regions (data_region m (module_at w.parts.modules m))
+    → Contains w.parts.memory.regions (code_region m (module_at w.parts.modules m)) × Contains w.parts.memory.regions
+    (data_region m (module_at w.parts.modules m))
 module_in_memory w m world below =
     subst (λ rs. Contains rs (code_region m (module_at w.parts.modules m)) × Contains rs (data_region m (module_at w.parts.modules m))) (sym world.regions)
     (module_stands w.parts.modules 0 m m (omega arith) below)
 
 pub code_is_in_no_frame : RunningIsReady → ReadyIsThread → CodeIsInNoFrame
 code_is_in_no_frame is_ready is_thread w e m x world code =
-    event_spares is_ready is_thread w e (code_region m (module_at w.parts.modules m)) x world (module_in_memory w m world code.0).0 (λ t runs. refl) code.1 code.2
+    event_spares is_ready is_thread w e (code_region m (module_at w.parts.modules m)) x world (module_in_memory w m world code.0).0
+    (λ t runs. refl) code.1 code.2
 
 -- no other module has the bit of one
 other_bit : (m n : ℕ) → n ≢ m → lets_store n (data_region m (module_at [] 0)) ≡ false
 other_bit m n other = ap (λ b. b == 1) (bit_at-pow_other m n other)
 
-pub others_data_is_in_no_frame : RunningIsReady → ReadyIsThread → OthersDataIsInNoFrame
+-- no frame of a step has an address of the data of a module whose thread doesn't run
+others_data_is_in_no_frame : RunningIsReady → ReadyIsThread → (w : World) (t m x : ℕ) → IsWorld w → w.parts.kernel.ready.run ≡ Some t
+    → module_of w.parts.kernel t ≢ m → IsDataOf w m x → IsOutsideAll (frame w Step) x
 others_data_is_in_no_frame is_ready is_thread w t m x world runs other own =
-    event_spares is_ready is_thread w Step (data_region m (module_at w.parts.modules m)) x world (module_in_memory w m world own.0).1
-    (λ u runs_too. let same : t ≡ u = cc in subst (λ v. lets_store (module_of w.parts.kernel v) (data_region m (module_at w.parts.modules m)) ≡ false) same (other_bit m (module_of w.parts.kernel t) other))
+    let r = data_region m (module_at w.parts.modules m) in
+    event_spares is_ready is_thread w Step r x world (module_in_memory w m world own.0).1
+    (λ u runs_too.
+    let same : t ≡ u = cc in
+    subst (λ v. lets_store (module_of w.parts.kernel v) r ≡ false) same (other_bit m (module_of w.parts.kernel t) other))
     own.1 own.2
 
--- a fault
-pub fault_spares_others : HaltSparesThreads → FaultSparesOthers
+-- what changes a byte is a store or a call
+writes_by : (p : Parts) (t x : ℕ) (e : Effect) → byte (after_effect p t e).memory x ≢ byte p.memory x → Writes e
 unfolding after_fault
+writes_by p t x (Completes h) changed = absurd (changed refl)
+writes_by p t x (Stores a n value h) changed = tt
+writes_by p t x (Calls h) changed = tt
+writes_by p t x (Faults cause) changed = absurd (changed refl)
+
+step_writes : Lower → (w : World) (m x : ℕ) (run : Option ℕ) → IsWorld w → w.parts.kernel.ready.run ≡ run → IsDataOf w m x
+    → byte (stepped_by w.parts run).memory x ≢ byte w.parts.memory x
+    → (t : ℕ) × (run ≡ Some t) × (module_of w.parts.kernel t ≡ m) × Writes (next_effect w.parts t)
+step_writes lower w m x None world runs own changed = absurd (changed refl)
+step_writes lower w m x (Some t) world runs own changed =
+    ⊎_elim (λ (same : module_of w.parts.kernel t ≡ m). (t, refl, same, writes_by w.parts t x (next_effect w.parts t) changed))
+    (λ other.
+    let outside = others_data_is_in_no_frame lower.is_ready lower.is_thread w t m x world runs other own in
+    let frame_is : IsOutsideAll (step_frame w.parts (Some t)) x = subst (λ run. IsOutsideAll (step_frame w.parts run) x) runs outside in
+    absurd (changed ((step_within lower w (Some t) world runs).bytes x frame_is)))
+    (same_or_other (module_of w.parts.kernel t) m)
+
+pub data_is_its_modules : Lower → DataIsItsModules
+unfolding stepped
+data_is_its_modules lower w Step m x world own changed = step_writes lower w m x w.parts.kernel.ready.run world refl own changed
+data_is_its_modules lower w (Irq d word) m x world own changed =
+    absurd (changed ((event_within lower w (Irq d word) world).bytes x (All-nil (λ (r : Range). IsOutside r.base r.size x))))
+
+-- a fault leaves each thread of another module as it is
+others_stay : HaltSparesThreads → (w : World) (t u : ℕ) (cause : Cause) → IsWorld w → IsFaulting w t cause
+    → is_thread w.parts.kernel u ≡ true → module_of w.parts.kernel u ≢ module_of w.parts.kernel t
+    → (is_thread (after w Step).parts.kernel u ≡ true) × (thread (after w Step).parts.kernel u ≡ thread w.parts.kernel u)
+unfolding after_fault
+others_stay spares w t u cause world faults is other =
+    subst (λ (p : Parts). (is_thread p.kernel u ≡ true) × (thread p.kernel u ≡ thread w.parts.kernel u))
+    (sym (stepped_is w.parts t (Faults cause) faults.0 faults.1))
+    (spares w.parts.kernel (module_of w.parts.kernel t) u world.kernel is other)
+
+pub fault_spares_others : HaltSparesThreads → FaultSparesOthers
 fault_spares_others spares w t u cause world faults is other =
-    let kept = spares w.parts.kernel (module_of w.parts.kernel t) u world.kernel is other in
-    subst (λ (p : Parts). (is_thread p.kernel u ≡ true) × (thread p.kernel u ≡ thread w.parts.kernel u)) (sym (stepped_is w.parts t (Faults cause) faults.0 faults.1)) kept
+    let kept = others_stay spares w t u cause world faults is other in (kept.0, ap (λ (v : Thread). is_over v.state) kept.1)
 
 pub fault_keeps_bytes : FaultKeepsBytes
 unfolding after_fault

@@ -11,12 +11,13 @@ use Rattle.event_log.specs.Events.{Event, Irq, events_of}
 use Rattle.event_log.specs.Log.{IsEntry, irq_count, step_count}
 use Rattle.event_log.specs.declared.entry.Entry.{Entry}
 use Rattle.kernel_state.specs.Sound.{IsSound as IsSoundKernel}
+use Rattle.module_manager.specs.declared.modules.Module.{Module}
 use Rattle.region_guard.specs.Memory.{IsSound as IsSoundMemory}
 use Rattle.rv_core.specs.Execute.{Effect, Completes, Stores, Calls, Faults}
 use Rattle.board_core.specs.Action.{acted, device_of, interrupted, resumed_by_name}
 use Rattle.board_core.specs.Boot.{booted, regions_of}
 use Rattle.board_core.specs.Laws.{ImagesStay, IsWorld, OwnersStay, RegionsStay, images_in}
-use Rattle.board_core.specs.Machine.{Stands, shown}
+use Rattle.board_core.specs.Machine.{AreCounted, Stands, shown}
 use Rattle.board_core.specs.After.{after}
 use Rattle.board_core.specs.Owners.{AreOwned}
 use Rattle.board_core.specs.Run.{run}
@@ -26,6 +27,7 @@ use Rattle.board_core.specs.Devices.{device_at, fresh_device, noted}
 use Rattle.board_core.specs.World.{World}
 use Rattle.board_core.specs.declared.devices.Device.{Device}
 use Rattle.board_core.specs.declared.parts.Parts.{Parts}
+use Rattle.board_core.proofs.Regions.{acted_modules, effect_modules}
 use Rattle.board_core.proofs.Traces.{now_is}
 
 -- the images stay where the next world is the one that is shown
@@ -79,8 +81,8 @@ leads_on w middle now es fs first then =
     }
 
 pub events_stand : (b : Board) (p p' : Parts) (h h' : List Entry) (es : List Event) → Stands b p h → All (IsEntry (length b.devices)) h'
-    → events_of h' ≡ events_of h ++ es → Leads (shown b p h) es (shown b p' h') → Stands b p' h'
-events_stand b p p' h h' es stands theirs events leads =
+    → events_of h' ≡ events_of h ++ es → Leads (shown b p h) es (shown b p' h') → AreCounted p'.devices h' → Stands b p' h'
+events_stand b p p' h h' es stands theirs events leads counts =
     let first = booted b (images_in p.memory p.modules) in
     record {
       run = ap (λ (i : List (List ℕ)). (run (record { board = b; images = i }) h').now) leads.images
@@ -90,22 +92,20 @@ events_stand b p p' h h' es stands theirs events leads =
           ∙ (ap (λ (v : World). fold after v es) (sym (now_is (begun first) (events_of h)) ∙ stands.run) ∙ leads.run))));
       world = leads.world;
       its_devices = theirs;
+      counts = counts;
     }
 
 pub event_stands : ImagesStay → RegionsStay → OwnersStay → (b : Board) (p p' : Parts) (h h' : List Entry) (e : Event) → Stands b p h
     → All (IsEntry (length b.devices)) h' → events_of h' ≡ events_of h ++ e ∷ [] → after (shown b p h) e ≡ shown b p' h' → Keeps (shown b p' h')
-    → Stands b p' h'
-event_stands images regions owners b p p' h h' e stands theirs events is keeps =
+    → AreCounted p'.devices h' → Stands b p' h'
+event_stands images regions owners b p p' h h' e stands theirs events is keeps counts =
     events_stand b p p' h h' (e ∷ []) stands theirs events
-    (event_leads images regions owners (shown b p h) (shown b p' h') e stands.world is keeps)
+    (event_leads images regions owners (shown b p h) (shown b p' h') e stands.world is keeps) counts
 
 -- a step keeps the number of modules, and the devices
-pub effect_modules : (p : Parts) (t : ℕ) (e : Effect) → length (after_effect p t e).modules ≡ length p.modules
-unfolding after_fault
-effect_modules p t (Completes h) = refl
-effect_modules p t (Stores a n value h) = refl
-effect_modules p t (Calls h) = refl
-effect_modules p t (Faults cause) = length-set p.modules _ _
+pub effect_count : (p : Parts) (t : ℕ) (e : Effect) → length (after_effect p t e).modules ≡ length p.modules
+effect_count p t e =
+    effect_modules p t e (λ (ms : List Module). length ms ≡ length p.modules) refl (λ m state. length-set p.modules m _)
 
 pub effect_devices : (p : Parts) (t : ℕ) (e : Effect) → (after_effect p t e).devices ≡ p.devices
 unfolding after_fault
@@ -122,20 +122,19 @@ taken_more ds d status n inside all =
     (All-weaker (λ (x : Device). x.taken ≤ n) (λ (x : Device). x.taken ≤ n + 1) (λ x le. omega (arith, le)) ds all)
 
 -- an action keeps the number of modules, and the devices, of which an interrupt notes one
-acted_modules : (p : Parts) (action : Action) (target : List ℕ) (word : ℕ) → length (acted p action target word).parts.modules ≡ length p.modules
-unfolding resumed_by_name
-acted_modules p Resume target word = refl
-acted_modules p _ target word = refl
+acted_count : (p : Parts) (action : Action) (target : List ℕ) (word : ℕ) → length (acted p action target word).parts.modules ≡ length p.modules
+acted_count p action target word =
+    acted_modules p action target word (λ (ms : List Module). length ms ≡ length p.modules) refl (λ m state. length-set p.modules m _)
 
 acted_devices : (p : Parts) (action : Action) (target : List ℕ) (word : ℕ) → (acted p action target word).parts.devices ≡ p.devices
 unfolding resumed_by_name
 acted_devices p Resume target word = refl
 acted_devices p _ target word = refl
 
-abbrev status_by : Board → Parts → ℕ → ℕ → ℕ
+abbrev pub status_by : Board → Parts → ℕ → ℕ → ℕ
 status_by b p d word = (acted p (device_of b d).action (device_of b d).target word).status
 
-interrupt_devices : (b : Board) (p : Parts) (d word : ℕ) → (interrupted b p d word).devices ≡ noted p.devices d (status_by b p d word)
+pub interrupt_devices : (b : Board) (p : Parts) (d word : ℕ) → (interrupted b p d word).devices ≡ noted p.devices d (status_by b p d word)
 interrupt_devices b p d word =
     ap (λ (ds : List Device). noted ds d (status_by b p d word)) (acted_devices p (device_of b d).action (device_of b d).target word)
 
@@ -161,7 +160,7 @@ irq_keeps b p p' h h' d word world inside is irqs kernel memory =
       board = world.board;
       kernel = kernel;
       memory = memory;
-      modules = ap (λ (x : Parts). length x.modules) is ∙ (acted_modules p (device_of b d).action (device_of b d).target word ∙ world.modules);
+      modules = ap (λ (x : Parts). length x.modules) is ∙ (acted_count p (device_of b d).action (device_of b d).target word ∙ world.modules);
       devices = ap (λ (ds : List Device). length ds) devices ∙ (length-set p.devices d _ ∙ world.devices);
       taken = subst (λ i. All (λ (x : Device). x.taken ≤ i) p'.devices) (sym irqs)
           (subst (λ (ds : List Device). All (λ (x : Device). x.taken ≤ n + 1) ds) (sym devices) more);

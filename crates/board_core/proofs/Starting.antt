@@ -44,12 +44,15 @@ some_data g ms i laid below =
 own_base : (g : Memory) (ms : List Module) (i : ℕ) → All (IsInRam g.bytes) (regions_of 0 ms) → i < length ms → ram_base ≤ (module_at ms i).placed.data_base
 own_base g ms i inside below = (each_data (IsInRam g.bytes) ms i blank inside below).range.from_base
 
-beside : (ms : List Module) (i k : ℕ) (d : Module) → NoneMeet (regions_of 0 ms) → i < length ms → k < length ms → AreApart (data_region i (module_at ms i)) (code_region k (get_or ms k d))
+beside : (ms : List Module) (i k : ℕ) (d : Module) → NoneMeet (regions_of 0 ms) → i < length ms → k < length ms
+    → AreApart (data_region i (module_at ms i)) (code_region k (get_or ms k d))
 beside ms i k d unmet below k_below =
-    subst (λ (m : Module). AreApart (data_region i (module_at ms i)) (code_region k m)) (get_or_default ms k blank d k_below) (data_beside_code ms i k blank unmet below k_below)
+    subst (λ (m : Module). AreApart (data_region i (module_at ms i)) (code_region k m)) (get_or_default ms k blank d k_below)
+    (data_beside_code ms i k blank unmet below k_below)
 
 -- a data region that is zeroed is no module's code
-images_beside_data : LengthStays → OthersStay → (g : Memory) (ms : List Module) (i : ℕ) → AreLaid g ms → i < length ms → images_in (zeroed g (module_at ms i)) ms ≡ images_in g ms
+images_beside_data : LengthStays → OthersStay → (g : Memory) (ms : List Module) (i : ℕ) → AreLaid g ms → i < length ms
+    → images_in (zeroed g (module_at ms i)) ms ≡ images_in g ms
 images_beside_data lengths stays g ms i laid below =
     let r = module_at ms i in
     let now = zeroed g r in
@@ -65,11 +68,13 @@ images_beside_data lengths stays g ms i laid below =
     let high = range.to_end in
     let data_low : ram_base ≤ r.placed.data_base = own_base g ms i inside below in
     let apart = beside ms i k d unmet below k_below in
-    let free : (m.placed.code_base - ram_base + n ≤ r.placed.data_base - ram_base) ⊎ (r.placed.data_base - ram_base + length zeros ≤ m.placed.code_base - ram_base) =
+    let free : (m.placed.code_base - ram_base + n ≤ r.placed.data_base - ram_base) ⊎
+    (r.placed.data_base - ram_base + length zeros ≤ m.placed.code_base - ram_base) =
     ⊎_elim (λ before. inr (omega arith)) (λ behind. inl (omega arith)) apart in
     range_stays lengths stays g.bytes zeros (r.placed.data_base - ram_base) (m.placed.code_base - ram_base) n (omega arith) free)
 
-zeroed_lies : SoundnessStays → (g : Memory) (ms : List Module) (i : ℕ) → AreLaid g ms → i < length ms → AreLaid (zeroed g (module_at ms i)) (with_state ms i Started)
+zeroed_lies : SoundnessStays → (g : Memory) (ms : List Module) (i : ℕ) → AreLaid g ms → i < length ms
+    → AreLaid (zeroed g (module_at ms i)) (with_state ms i Started)
 zeroed_lies sound g ms i laid below =
     let r = module_at ms i in
     let now : Module = record r { state = Started } in

@@ -4,7 +4,8 @@ use Rattle.std.proofs.lemmas.List.Edits.{get_or-between, length-between}
 use Rattle.flat_ram.specs.Laws.{IsOutside, LengthStays, OthersStay, RangeIsWritten}
 use Rattle.flat_ram.specs.Ram.{over}
 
-pub range_stays : LengthStays → OthersStay → (bytes others : List ℕ) (at from n : ℕ) → from + n ≤ length bytes → (from + n ≤ at) ⊎ (at + length others ≤ from) → slice_range (over bytes at others) from (from + n) ≡ slice_range bytes from (from + n)
+pub range_stays : LengthStays → OthersStay → (bytes others : List ℕ) (at from n : ℕ) → from + n ≤ length bytes → (from + n ≤ at) ⊎ (at + length others ≤ from)
+    → slice_range (over bytes at others) from (from + n) ≡ slice_range bytes from (from + n)
 range_stays lengths stays bytes others at from n inside apart =
     let now = over bytes at others in
     let same = lengths bytes others at in
@@ -15,7 +16,8 @@ range_stays lengths stays bytes others at from n inside apart =
     let outside : IsOutside at (length others) (from + k) = ⊎_elim (λ low. inl (omega arith)) (λ high. inr (omega arith)) apart in
     get_or-between now from (from + n) k 0 within ∙ (stays bytes others at (from + k) outside ∙ sym (get_or-between bytes from (from + n) k 0 within)))
 
-pub written_stands : LengthStays → RangeIsWritten → (bytes others : List ℕ) (at : ℕ) → at + length others ≤ length bytes → slice_range (over bytes at others) at (at + length others) ≡ others
+pub written_stands : LengthStays → RangeIsWritten → (bytes others : List ℕ) (at : ℕ) → at + length others ≤ length bytes
+    → slice_range (over bytes at others) at (at + length others) ≡ others
 written_stands lengths written bytes others at inside =
     let now = over bytes at others in
     let n = length others in

@@ -1,5 +1,5 @@
 -- The world after an event.
-use Rattle.std.specs.Prelude.{ℕ, ◌+◌}
+use Rattle.std.specs.Prelude.{◌+◌}
 use Rattle.event_log.specs.Events.{Event, Step, Irq}
 use Rattle.board_core.specs.Action.{interrupted}
 use Rattle.board_core.specs.Step.{stepped}

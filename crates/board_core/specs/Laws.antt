@@ -1,15 +1,16 @@
 -- Laws of the written machine, over every event.
-use Rattle.std.specs.Prelude.{◌≡◌, ◌≢◌, ℕ, ◌+◌, ◌<◌, ◌≤◌, true, List, All, fold, map, length, Some}
-use Rattle.event_log.specs.Events.{Event, Step}
+use Rattle.std.specs.Prelude.{◌≡◌, ◌≢◌, ⊤, ℕ, ◌+◌, ◌<◌, ◌≤◌, true, List, All, fold, map, length, Some}
+use Rattle.event_log.specs.Events.{Event, Step, Irq}
 use Rattle.event_log.specs.declared.entry.Entry.{Entry}
 use Rattle.kernel_state.specs.Kernel.{thread, is_thread, module_of}
 use Rattle.kernel_state.specs.Sound.{IsSound as IsSoundKernel}
+use Rattle.kernel_state.specs.Thread.{is_over}
 use Rattle.module_loader.specs.Want.{want_of}
 use Rattle.module_manager.specs.Modules.{module_at}
 use Rattle.module_manager.specs.declared.modules.Module.{Module}
 use Rattle.module_manager.specs.declared.modules.ModuleState.TheVariants.{Faulted}
 use Rattle.region_guard.specs.Memory.{Memory, IsSound as IsSoundMemory, byte, bytes_from}
-use Rattle.rv_core.specs.Execute.{Faults}
+use Rattle.rv_core.specs.Execute.{Effect, Completes, Stores, Calls, Faults}
 use Rattle.rv_core.specs.declared.bus.Cause.{Cause}
 use Rattle.board_file.specs.Rules.{IsBoard}
 use Rattle.board_core.specs.After.{after}
@@ -69,26 +70,40 @@ abbrev pub CodeIsInNoFrame : Type 0
 CodeIsInNoFrame =
     (w : World) (e : Event) (m x : ℕ) → IsWorld w → IsCodeOf w m x → IsOutsideAll (frame w e) x
 
--- a module's data is written by its own threads alone
-abbrev pub OthersDataIsInNoFrame : Type 0
-OthersDataIsInNoFrame =
-    (w : World) (t m x : ℕ) → IsWorld w → w.parts.kernel.ready.run ≡ Some t
-    → module_of w.parts.kernel t ≢ m → IsDataOf w m x
-    → IsOutsideAll (frame w Step) x
+-- a store or a call
+abbrev pub Writes : Effect → Type 0
+Writes (Completes h) = ⊥
+Writes (Stores a n value h) = ⊤
+Writes (Calls h) = ⊤
+Writes (Faults cause) = ⊥
+
+-- the event is a store or a call of a thread of module m
+abbrev pub IsWriteOf : World → ℕ → Event → Type 0
+IsWriteOf w m Step =
+    (t : ℕ) × (w.parts.kernel.ready.run ≡ Some t) × (module_of w.parts.kernel t ≡ m)
+    × Writes (next_effect w.parts t)
+IsWriteOf w m (Irq d word) = ⊥
+
+-- a byte of a module's data changes only by a store or a call of that module; no call's result is
+-- pending yet, and no module is started but at boot
+abbrev pub DataIsItsModules : Type 0
+DataIsItsModules =
+    (w : World) (e : Event) (m x : ℕ) → IsWorld w → IsDataOf w m x
+    → byte (after w e).parts.memory x ≢ byte w.parts.memory x → IsWriteOf w m e
 
 -- the next instruction can't be executed
 abbrev pub IsFaulting : World → ℕ → Cause → Type 0
 IsFaulting w t cause =
     (w.parts.kernel.ready.run ≡ Some t) × (next_effect w.parts t ≡ Faults cause)
 
--- a fault leaves each thread of another module as it is, and every byte
+-- a fault deletes, completes or terminates no thread of another module, and changes no byte
 abbrev pub FaultSparesOthers : Type 0
 FaultSparesOthers =
     (w : World) (t u : ℕ) (cause : Cause) → IsWorld w → IsFaulting w t cause
     → let k = w.parts.kernel in
     let now = (after w Step).parts.kernel in
     is_thread k u ≡ true → module_of k u ≢ module_of k t
-    → (is_thread now u ≡ true) × (thread now u ≡ thread k u)
+    → (is_thread now u ≡ true) × (is_over (thread now u).state ≡ is_over (thread k u).state)
 
 abbrev pub FaultKeepsBytes : Type 0
 FaultKeepsBytes =

@@ -30,14 +30,14 @@ use Rattle.board_core.specs.World.{World}
 use Rattle.board_core.specs.declared.devices.Device.{Device}
 
 -- what is said of each number below n, from 0 on
-unfoldable pub each : {R : Type 0} → ℕ → (ℕ → R) → List R
-each zero row = []
-each (suc n) row = each n row ++ row n ∷ []
+unfoldable pub rows_below : {R : Type 0} → ℕ → (ℕ → R) → List R
+rows_below zero row = []
+rows_below (suc n) row = rows_below n row ++ row n ∷ []
 
 -- what is said of some of the numbers below n, from 0 on
-unfoldable pub some : {R : Type 0} → ℕ → (ℕ → Option R) → List R
-some zero row = []
-some (suc n) row = some n row ++ option_to_list (row n)
+unfoldable pub rows_found : {R : Type 0} → ℕ → (ℕ → Option R) → List R
+rows_found zero row = []
+rows_found (suc n) row = rows_found n row ++ option_to_list (row n)
 
 -- no wait begins yet
 abbrev pub no_waits : Totals
@@ -103,7 +103,7 @@ show_at b i = slice_index_or b.shows i (record { «module» = 0; offset = 0; wor
 
 abbrev pub show_cells : Memory → List Module → BoardShow → List (Option ℕ)
 show_cells g ms s =
-    each s.words (λ j. show_cell g (module_at ms s.module) (s.offset + 4 * j))
+    rows_below s.words (λ j. show_cell g (module_at ms s.module) (s.offset + 4 * j))
 
 abbrev pub show_row : Board → Memory → List Module → ℕ → ShowRow
 show_row b g ms i = record { show = i; cells = show_cells g ms (show_at b i) }
@@ -122,9 +122,9 @@ report_of w =
       held = k.ready.held;
       ready = k.ready.order;
       totals = no_waits;
-      modules = each (length p.modules) (module_row w.board p.modules);
-      threads = some (length k.objects) (thread_row k);
-      objects = some (length k.objects) (object_row k);
-      devices = each (length p.devices) (device_row w.board p.devices);
-      shows = each (length w.board.shows) (show_row w.board p.memory p.modules);
+      modules = rows_below (length p.modules) (module_row w.board p.modules);
+      threads = rows_found (length k.objects) (thread_row k);
+      objects = rows_found (length k.objects) (object_row k);
+      devices = rows_below (length p.devices) (device_row w.board p.devices);
+      shows = rows_below (length w.board.shows) (show_row w.board p.memory p.modules);
     }

@@ -57,6 +57,16 @@ impl Devices {
         self.rows[d.number() as usize]
     }
 
+    /// How many interrupts of a device were taken; none where there is no such device.
+    pub fn taken(&self, d: DevNo) -> u32
+        ensures { result ≡ (device_at self.now d).taken }
+    {
+        match self.rows.get(d.number() as usize) {
+            Some(row) => row.taken,
+            None => 0,
+        }
+    }
+
     /// One interrupt more was taken of a device, and its action had this status.
     pub(crate) fn note(&mut self, d: DevNo, status: Code)
         requires device { d < length self.old }

@@ -1,7 +1,7 @@
 //! What holds of every event, whatever the board: each function's contract is a law.
 //!
 //! Their bodies do nothing; a function calls one where its proof needs the law.
-ghost use Rattle.board_core.specs.Laws.{TraceLaw, TotalsAreOfEnded, FrameLaw, RegionsStay, ImagesStay, OwnersStay, RunnerIsStarted, FaultIsKept, CodeIsInNoFrame, OthersDataIsInNoFrame, FaultSparesOthers, FaultKeepsBytes};
+ghost use Rattle.board_core.specs.Laws.{TraceLaw, TotalsAreOfEnded, FrameLaw, RegionsStay, ImagesStay, OwnersStay, RunnerIsStarted, FaultIsKept, CodeIsInNoFrame, DataIsItsModules, FaultSparesOthers, FaultKeepsBytes};
 
 use call_dispatch::laws::a_call_writes_its_result_alone;
 use flat_ram::{a_number_lies_lowest_byte_first, a_write_changes_its_range_alone};
@@ -52,14 +52,19 @@ pub fn slots_are_of_started_modules()
     a_halt_ends_its_module();
 }
 
-/// No event writes code, and a step writes no data of a module but that of the thread that runs; a
-/// fault changes no thread of another module, and no byte.
+/// No event writes code, and a byte of a module's data changes only by a store or a call of that
+/// module. A fault ends no thread of another module, and changes no byte.
 pub fn a_module_is_spared()
     ensures code { CodeIsInNoFrame }
-    ensures data { OthersDataIsInNoFrame }
+    ensures data { DataIsItsModules }
     ensures fault { FaultSparesOthers }
     ensures bytes { FaultKeepsBytes }
 {
     who_runs_is_a_thread();
+    a_write_changes_its_range_alone();
+    a_number_lies_lowest_byte_first();
+    a_write_changes_its_bytes_alone();
+    what_may_be_used_is_in_ram();
+    a_call_writes_its_result_alone();
     a_halt_spares_other_modules();
 }

@@ -3,6 +3,7 @@
 //! Its type keeps that the parts show what the written machine reaches from the board and the images
 //! by that history. Every event's memory was taken at boot, and each event always returns.
 ghost use Rattle.std.specs.Prelude.{◌≡◌, ◌+◌, ◌<◌, ◌≤◌, length};
+ghost use Rattle.event_log.specs.Events.{words_of};
 ghost use Rattle.event_log.specs.Log.{IsHistory, irq_count, step_count, with_irq, with_step, with_steps};
 ghost use Rattle.region_guard.specs.Memory.{IsSound as IsSoundMemory};
 ghost use Rattle.module_manager.specs.Modules.{module_at};
@@ -14,7 +15,9 @@ use crate::laws::{an_event_keeps_regions_and_images, slots_are_of_started_module
 use crate::parts::Parts;
 use board_file::Board;
 use board_values::DevNo;
-use event_log::{History, a_history_grows_by_one_event, a_history_grows_by_steps};
+use event_log::{
+    History, a_history_grows_by_one_event, a_history_grows_by_steps, an_interrupt_is_one_word_more,
+};
 use flat_ram::a_write_changes_its_range_alone;
 use kernel_state::laws::{a_kernel_stays_sound, who_runs_is_a_thread};
 use module_loader::Placed;
@@ -95,6 +98,7 @@ impl Machine {
         ensures { self.new ≡ record self.old { history = with_irq d w self.old.history } }
     {
         a_history_grows_by_one_event();
+        an_interrupt_is_one_word_more();
         an_event_keeps_regions_and_images();
         slots_are_of_started_modules();
         let _ = self.history.room();
@@ -135,6 +139,13 @@ impl Machine {
             ≡ (module_at (run self.now.origin self.now.history).now.parts.modules m).placed }
     {
         self.parts.modules.row(m).placed
+    }
+
+    /// How many words of a device were taken.
+    pub fn taken(&self, d: DevNo) -> u32
+        ensures { result ≡ length (words_of d self.now.history) }
+    {
+        self.parts.devices.taken(d)
     }
 
     /// The status of a device's last action; SUCCESS before the first.

@@ -8,7 +8,7 @@ ghost use Rattle.board_values.specs.declared.report.ThreadRow.{ThreadRow};
 ghost use Rattle.kernel_state.specs.Kernel.{is_thread};
 ghost use Rattle.kernel_state.specs.Rows.{object_row};
 ghost use Rattle.module_manager.specs.Modules.{fault_in, module_at};
-ghost use Rattle.board_core.specs.Report.{each, some, device_row, fault_row, module_row, row_of_thread, thread_row};
+ghost use Rattle.board_core.specs.Report.{rows_below, rows_found, device_row, fault_row, module_row, row_of_thread, thread_row};
 
 use crate::devices::Devices;
 use board_file::Board;
@@ -82,7 +82,7 @@ fn module_row(board: &Board, modules: &Manager, m: ModNo) -> Result<ModuleRow, N
 }
 
 /// A row for each module.
-#[tactic(auto, using(crate::proofs::Lists::each_none, crate::proofs::Lists::each_more))]
+#[tactic(auto, using(crate::proofs::Lists::rows_below_none, crate::proofs::Lists::rows_below_more))]
 pub(crate) fn module_rows(
     alloc: Global,
     board: &Board,
@@ -90,7 +90,7 @@ pub(crate) fn module_rows(
 ) -> Result<ModuleRows, NoMemory>
     requires { length modules.now ≡ length board.now.modules }
     ensures { IfOk result (λ rows. rows
-        ≡ each (length modules.now) (module_row board.now modules.now)) }
+        ≡ rows_below (length modules.now) (module_row board.now modules.now)) }
 {
     let mut rows = Vec::new(alloc);
     for m in 0..modules.len() {
@@ -144,11 +144,11 @@ fn thread_row(alloc: Global, kernel: &Kernel, t: ThreadNo) -> Result<Option<Thre
 }
 
 /// A row for each thread.
-#[tactic(auto, using(crate::proofs::Lists::some_none, crate::proofs::Lists::some_more, crate::proofs::Lists::all_put))]
+#[tactic(auto, using(crate::proofs::Lists::rows_found_none, crate::proofs::Lists::rows_found_more, crate::proofs::Lists::all_put))]
 pub(crate) fn thread_rows(alloc: Global, kernel: &Kernel) -> Result<ThreadRows, NoMemory>
     requires { length kernel.now.objects ≡ 256 }
     ensures rows { IfOk result (λ rows. rows
-        ≡ some (length kernel.now.objects) (thread_row kernel.now)) }
+        ≡ rows_found (length kernel.now.objects) (thread_row kernel.now)) }
     ensures regs { IfOk result (All (λ (t : ThreadRow). length t.regs ≡ 31)) }
 {
     let mut rows = Vec::new(alloc);
@@ -159,11 +159,11 @@ pub(crate) fn thread_rows(alloc: Global, kernel: &Kernel) -> Result<ThreadRows, 
 }
 
 /// A row for each object that isn't a thread.
-#[tactic(auto, using(crate::proofs::Lists::some_none, crate::proofs::Lists::some_more))]
+#[tactic(auto, using(crate::proofs::Lists::rows_found_none, crate::proofs::Lists::rows_found_more))]
 pub(crate) fn object_rows(alloc: Global, kernel: &Kernel) -> Result<ObjectRows, NoMemory>
     requires { length kernel.now.objects ≡ 256 }
     ensures { IfOk result (λ rows. rows
-        ≡ some (length kernel.now.objects) (object_row kernel.now)) }
+        ≡ rows_found (length kernel.now.objects) (object_row kernel.now)) }
 {
     let mut rows = Vec::new(alloc);
     for o in 0..SLOTS {
@@ -189,7 +189,7 @@ fn device_row(board: &Board, devices: &Devices, d: DevNo) -> Result<DeviceRow, N
 }
 
 /// A row for each device.
-#[tactic(auto, using(crate::proofs::Lists::each_none, crate::proofs::Lists::each_more))]
+#[tactic(auto, using(crate::proofs::Lists::rows_below_none, crate::proofs::Lists::rows_below_more))]
 pub(crate) fn device_rows(
     alloc: Global,
     board: &Board,
@@ -198,7 +198,7 @@ pub(crate) fn device_rows(
     requires few { length devices.now ≤ 16 }
     requires board { length devices.now ≡ length board.now.devices }
     ensures { IfOk result (λ rows. rows
-        ≡ each (length devices.now) (device_row board.now devices.now)) }
+        ≡ rows_below (length devices.now) (device_row board.now devices.now)) }
 {
     let mut rows = Vec::new(alloc);
     for d in 0..devices.len() {

@@ -5,7 +5,7 @@ ghost use Rattle.std.specs.Prelude.{◌≡◌, ◌+◌, ◌<◌, ◌≤◌, leng
 ghost use Rattle.module_manager.specs.Modules.{module_at};
 ghost use Rattle.board_file.specs.Rules.{IsBoard, IsShow};
 ghost use Rattle.board_core.specs.Boot.{regions_of};
-ghost use Rattle.board_core.specs.Report.{each, show_cell, show_cells, show_row};
+ghost use Rattle.board_core.specs.Report.{rows_below, show_cell, show_cells, show_row};
 
 use crate::rows::put;
 use board_file::{Board, BoardShow};
@@ -34,7 +34,7 @@ fn show_cell(guard: &Guard, modules: &Manager, m: ModNo, at: u32) -> Option<u32>
 }
 
 /// The words of a show.
-#[tactic(auto, using(crate::proofs::Lists::each_none, crate::proofs::Lists::each_more))]
+#[tactic(auto, using(crate::proofs::Lists::rows_below_none, crate::proofs::Lists::rows_below_more))]
 fn show_cells(
     alloc: Global,
     guard: &Guard,
@@ -75,7 +75,7 @@ fn show_row(
 }
 
 /// A row for each show.
-#[tactic(auto, using(crate::proofs::Lists::each_none, crate::proofs::Lists::each_more))]
+#[tactic(auto, using(crate::proofs::Lists::rows_below_none, crate::proofs::Lists::rows_below_more))]
 pub(crate) fn show_rows(
     alloc: Global,
     board: &Board,
@@ -86,7 +86,7 @@ pub(crate) fn show_rows(
     requires modules { length modules.now ≡ length board.now.modules }
     requires regions { guard.now.regions ≡ regions_of 0 modules.now }
     ensures { IfOk result (λ rows. rows
-        ≡ each (length board.now.shows) (show_row board.now guard.now modules.now)) }
+        ≡ rows_below (length board.now.shows) (show_row board.now guard.now modules.now)) }
 {
     let mut rows = Vec::new(alloc);
     for i in 0..board.shows.items().len() {

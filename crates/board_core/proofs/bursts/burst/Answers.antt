@@ -15,7 +15,8 @@ loop-done-preserved c =
     let done = sym c.step.ensures.out ∙ c.in-Done.is in
     record {
       rest = ap (λ m. behind (at.done + 1) (burst m (c.args.most - (at.done + 1)) c.step.new.hart c.step.new.bus.guard.now)) (sym at.invariant.«module»)
-          ∙ burst_more at.bus.«module» at.done c.args.most at.hart c.step.new.hart at.bus.guard.now c.step.new.bus.guard.now c.loop-done-test.true done c.step.ensures.hart kept.memory
+          ∙ burst_more at.bus.«module» at.done c.args.most at.hart c.step.new.hart at.bus.guard.now c.step.new.bus.guard.now
+          c.loop-done-test.true done c.step.ensures.hart kept.memory
           ∙ ap (λ m. behind at.done (burst m (c.args.most - at.done) at.hart at.bus.guard.now)) at.invariant.«module»
           ∙ at.invariant.rest;
       «module» = kept.«module» ∙ at.invariant.«module»;

@@ -1,13 +1,21 @@
-use Rattle.board_core.proofs.Spared.{code_is_in_no_frame, fault_keeps_bytes, fault_spares_others, others_data_is_in_no_frame}
+use Rattle.board_core.proofs.Frames.{Lower}
+use Rattle.board_core.proofs.Spared.{code_is_in_no_frame, data_is_its_modules, fault_keeps_bytes, fault_spares_others}
 use Rattle.board_core.proofs.laws.a_module_is_spared.Goals as goal
 
 pub returns : goal.returns
 returns c =
-    let is_ready = c.who_runs_is_a_thread.ensures.running_is_ready in
-    let is_thread = c.who_runs_is_a_thread.ensures.ready_is_thread in
+    let lower : Lower = record {
+      is_ready = c.who_runs_is_a_thread.ensures.running_is_ready;
+      is_thread = c.who_runs_is_a_thread.ensures.ready_is_thread;
+      length_stays = c.a_write_changes_its_range_alone.ensures.length_stays;
+      width = c.a_number_lies_lowest_byte_first.ensures.width_is_length;
+      outside_stays = c.a_write_changes_its_bytes_alone.ensures.outside_stays;
+      in_ram = c.what_may_be_used_is_in_ram.ensures.in_ram;
+      call = c.a_call_writes_its_result_alone.ensures;
+    } in
     record {
-      code = code_is_in_no_frame is_ready is_thread;
-      «data» = others_data_is_in_no_frame is_ready is_thread;
+      code = code_is_in_no_frame lower.is_ready lower.is_thread;
+      «data» = data_is_its_modules lower;
       fault = fault_spares_others c.a_halt_spares_other_modules.ensures.threads;
       bytes = fault_keeps_bytes;
     }

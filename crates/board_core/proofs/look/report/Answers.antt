@@ -16,5 +16,6 @@ returns-clause-printable c =
     let w : World = shown c.args.board.now c.args.parts.now c.args.history.now.entries in
     let held : c.in_ok-numbers.field-0 ≡ w.parts.kernel.ready.held = c.in_ok-numbers.ensures.same ∙ c.deref.ensures.value ∙ c.in_ok-held_list.ensures in
     let small = subst (λ (ns : List ℕ). All (λ n. n < 256) ns) held c.in_ok-numbers.ensures.small in
-    let regs = subst (λ (ts : List ThreadRow). All (λ (t : ThreadRow). length t.regs ≡ 31) ts) c.in_ok-thread_rows.ensures.rows c.in_ok-thread_rows.ensures.regs in
+    let regs =
+    subst (λ (ts : List ThreadRow). All (λ (t : ThreadRow). length t.regs ≡ 31) ts) c.in_ok-thread_rows.ensures.rows c.in_ok-thread_rows.ensures.regs in
     subst IsPrintable (sym (returns-clause-report c)) (report_is_printable w c.requires small regs)

@@ -17,6 +17,8 @@ returns-clause-loaded c =
     let images = contents c.args.images.now in
     let read = c.in_ok-preambles.ensures in
     let laws = c.a_write_changes_its_range_alone.ensures in
-    let due : places b images ≡ Ok c.in_ok-places.places.items = ap (places_in b.ram) (sym (c.deref.ensures.value ∙ read.words)) ∙ c.in_ok-places.ensures.placed in
+    let due : places b images ≡ Ok c.in_ok-places.places.items =
+    ap (places_in b.ram) (sym (c.deref.ensures.value ∙ read.words)) ∙ c.in_ok-places.ensures.placed in
     let many : length images ≡ length b.modules = length-map c.args.images.now (λ v. v.items) ∙ c.requires.images in
-    are_loaded laws.length_stays laws.others_stay laws.range_is_written c.what_is_placed_lies_apart.ensures.placed b images c.in_ok-places.places.items c.requires.board many read.accepted due
+    are_loaded laws.length_stays laws.others_stay laws.range_is_written c.what_is_placed_lies_apart.ensures.placed b images
+    c.in_ok-places.places.items c.requires.board many read.accepted due

@@ -2,9 +2,11 @@ use Rattle.std.proofs.Common.{ℕ, ◌+◌, ◌<◌, ◌≤◌, List, length, re
 use Rattle.event_log.specs.Events.{Step, events_of}
 use Rattle.event_log.specs.Log.{irq_count, step_count, with_steps}
 use Rattle.event_log.specs.declared.entry.Entry.{Entry}
-use Rattle.board_core.specs.Machine.{Recorded, origin_of, shown}
+use Rattle.board_core.specs.Machine.{AreCounted, Recorded, origin_of, shown}
+use Rattle.board_core.specs.declared.devices.Device.{Device}
+use Rattle.board_core.specs.declared.parts.Parts.{Parts}
 use Rattle.board_core.proofs.Histories.{AreEntries, steps_entries}
-use Rattle.board_core.proofs.MadeSteps.{Laws, made_leads, some_made}
+use Rattle.board_core.proofs.MadeSteps.{Laws, made_devices, made_leads, some_made}
 use Rattle.board_core.proofs.Standing.{Leads, events_stand}
 use Rattle.board_core.proofs.machine.Machine.make.Goals as goal
 use Rattle.board_core.proofs.machine.Machine.make.Goals.{After-add_steps, After-make_steps-made}
@@ -40,6 +42,16 @@ leads c =
     (ap step_count c.add_steps.ensures.entries ∙ grows.steps n h) (ap irq_count c.add_steps.ensures.entries ∙ grows.irqs n h)
     c.make_steps-made.ensures.sound c.is_guarded.ensures
 
+-- no word is taken by them
+counts : (c : After-add_steps) → AreCounted c.make_steps-made.new.self.devices c.add_steps.new.self.entries
+counts c =
+    let p = c.self.inside.parts in
+    let devices = ap (λ (x : Parts). x.devices) c.make_steps-made.ensures.parts ∙ made_devices c.args.most p in
+    subst (λ (ds : List Device). AreCounted ds c.add_steps.new.self.entries) (sym devices)
+    (subst (AreCounted p.devices) (sym c.add_steps.ensures.entries)
+    (λ d. c.self.invariant.counts d
+    ∙ ap (λ (ws : List ℕ). length ws) (sym (c.a_history_grows_by_steps.ensures.words c.make_steps-made.result d c.self.inside.history.entries))))
+
 pub add_steps-requires : goal.add_steps-requires
 add_steps-requires c =
     let room = subst (λ (s : Recorded). step_count s.history + c.args.most ≤ 100000000) (sym c.self.view_is) c.requires.room in
@@ -53,7 +65,7 @@ invariant_of-self c =
     events_stand m.board m.parts c.make_steps-made.new.self h c.add_steps.new.self.entries (replicate n Step) c.self.invariant
     (subst (AreEntries (length m.board.devices)) (sym c.add_steps.ensures.entries) (steps_entries (length m.board.devices) n h c.self.invariant.its_devices))
     (ap events_of c.add_steps.ensures.entries ∙ c.a_history_grows_by_steps.ensures.events n h)
-    (leads (goal.at.invariant_of-self c).After-add_steps)
+    (leads (goal.at.invariant_of-self c).After-add_steps) (counts (goal.at.invariant_of-self c).After-add_steps)
 
 pub returns-clause-some : goal.returns-clause-some
 returns-clause-some c = (made (goal.at.returns-clause-some c).After-make_steps-made).0

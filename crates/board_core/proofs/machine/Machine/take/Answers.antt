@@ -1,15 +1,17 @@
-use Rattle.std.proofs.Common.{ℕ, ◌+◌, ◌<◌, ◌≤◌, ◌≡◌, List, length, All, sym, ap, subst, ◌∙◌, arith}
+use Rattle.std.proofs.Common.{ℕ, ◌+◌, ◌<◌, ◌≤◌, ◌≡◌, List, length, sym, ap, subst, ◌∙◌, arith}
 use Rattle.std.proofs.lemmas.List.Elements.{All-get_or, All-push}
 use Rattle.event_log.specs.Events.{Irq, events_of}
 use Rattle.event_log.specs.Log.{IsEntry, irq_count, step_count, with_irq}
 use Rattle.event_log.specs.declared.entry.Entry.{Entry}
 use Rattle.event_log.specs.declared.entry.Entry.TheVariants as entry
 use Rattle.board_core.specs.After.{after}
-use Rattle.board_core.specs.Devices.{fresh_device}
-use Rattle.board_core.specs.Machine.{Recorded, origin_of, shown}
+use Rattle.board_core.specs.Devices.{fresh_device, noted}
+use Rattle.board_core.specs.Machine.{AreCounted, Recorded, origin_of, shown}
 use Rattle.board_core.specs.declared.devices.Device.{Device}
+use Rattle.board_core.specs.declared.parts.Parts.{Parts}
+use Rattle.board_core.proofs.Counts.{irq_counts}
 use Rattle.board_core.proofs.Histories.{AreEntries}
-use Rattle.board_core.proofs.Standing.{event_stands, images_shown, irq_keeps, irq_next}
+use Rattle.board_core.proofs.Standing.{event_stands, images_shown, interrupt_devices, irq_keeps, irq_next, status_by}
 use Rattle.board_core.proofs.machine.Machine.take.Goals as goal
 use Rattle.board_core.proofs.machine.Machine.take.Goals.{After-add_irq, After-room}
 
@@ -49,6 +51,18 @@ shows c =
     let steps = ap step_count c.add_irq.ensures.entries ∙ c.a_history_grows_by_one_event.ensures.steps_by_irq c.args.d c.args.w h in
     irq_next m.board m.parts c.interrupt.new.self h c.add_irq.new.self.entries c.args.d c.args.w c.interrupt.ensures.parts steps (irqs_more c)
 
+-- and its word is one more of its device
+counts : (c : After-add_irq) → c.args.d < length c.self.inside.parts.devices → AreCounted c.interrupt.new.self.devices c.add_irq.new.self.entries
+counts c inside =
+    let m = c.self.inside in
+    let d = c.args.d in
+    let w = c.args.w in
+    let h = m.history.entries in
+    let devices = ap (λ (x : Parts). x.devices) c.interrupt.ensures.parts ∙ interrupt_devices m.board m.parts d w in
+    subst (λ (ds : List Device). AreCounted ds c.add_irq.new.self.entries) (sym devices)
+    (subst (AreCounted (noted m.parts.devices d (status_by m.board m.parts d w))) (sym c.add_irq.ensures.entries)
+    (irq_counts c.an_interrupt_is_one_word_more.ensures.irq m.parts.devices d w (status_by m.board m.parts d w) h inside c.self.invariant.counts))
+
 pub invariant_of-self : goal.invariant_of-self
 invariant_of-self c =
     let at = (goal.at.invariant_of-self c).After-add_irq in
@@ -67,6 +81,7 @@ invariant_of-self c =
     (ap events_of c.add_irq.ensures.entries ∙ c.a_history_grows_by_one_event.ensures.irq d w h) (shows at)
     (irq_keeps m.board m.parts p' h h' d w c.self.invariant.world (is_kept before) c.interrupt.ensures.parts (irqs_more at) c.interrupt.ensures.sound
     c.is_guarded.ensures)
+    (counts at (is_kept before))
 
 pub returns : goal.returns
 returns c =
