@@ -22,4 +22,5 @@ pub use board_io::{
 };
 pub use command::{Command, command_of};
 pub use refusal::Refusal;
+pub use replay::write_report;
 pub use still::board_still;

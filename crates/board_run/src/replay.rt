@@ -176,7 +176,7 @@ fn write_log<S: Sink>(history: &History, sink: &mut S) -> Result<(), WriteErr>
 }
 
 /// Writes the lines of a report.
-fn write_report<S: Sink>(report: &Report, sink: &mut S) -> Result<(), WriteErr>
+pub fn write_report<S: Sink>(report: &Report, sink: &mut S) -> Result<(), WriteErr>
     requires { IsPrintable report.now }
     ensures counted { S.faults sink.old ≤ S.faults sink.new }
     ensures wrote { Wrote (S.faults sink.old) (S.faults sink.new) (S.written sink.old) (S.written sink.new)

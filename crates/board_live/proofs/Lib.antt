@@ -1,0 +1,4 @@
+mod Begun
+mod Ending
+mod Finished
+mod Texts
