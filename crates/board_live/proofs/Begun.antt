@@ -60,7 +60,7 @@ pub words_begun : ((d : ℕ) (es : List Entry) → words_of d es ≡ words d (in
 words_begun are devices passes h got left history taken all sent is d =
     ⊎_elim
     (λ (lt : d < length devices).
-      let (k, begun) = taken_begun devices passes got left d (omega (arith, lt, all)) sent (is d lt) in
-      (k, are d h ∙ (ap (λ l. words d l) taken ∙ begun)))
+    let (k, begun) = taken_begun devices passes got left d (omega (arith, lt, all)) sent (is d lt) in
+    (k, are d h ∙ (ap (λ l. words d l) taken ∙ begun)))
     (λ (le : length devices ≤ d). (0, none_past (length devices) d h history.entries le))
     (cases_lt d (length devices))

@@ -1,11 +1,11 @@
 -- A core that was taken apart, whose machine then made the steps that were left.
-use Rattle.std.proofs.Common.{◌≡◌, ℕ, ◌+◌, ◌≤◌, List, ◌++◌, replicate, Option, Result, ap, sym, subst, ◌∙◌}
+use Rattle.std.proofs.Common.{◌≡◌, ℕ, ◌-◌, ◌≤◌, List, ◌++◌, replicate, Option, Result, ap, sym, subst, ◌∙◌}
 use Rattle.std.specs.Bool.{⊤}
 use Rattle.board_core.specs.Machine.{Recorded}
 use Rattle.board_core.specs.Run.{Origin}
 use Rattle.board_serve.specs.Got.{HasAll}
 use Rattle.event_log.specs.Events.{events_of, Step}
-use Rattle.event_log.specs.Log.{closed, with_steps}
+use Rattle.event_log.specs.Log.{closed, step_count, with_steps}
 use Rattle.event_log.specs.declared.entry.Entry.{Entry}
 use Rattle.board_live.specs.Finish.{HasBegun, HasFinished, WroteEnd, stepped_out}
 use Rattle.board_live.specs.declared.finish.FinishErr.{FinishErr}
@@ -23,7 +23,8 @@ pub core_finished : (laws : Laws) (steps : StepLaws) (ends : EndLaws) (o : Origi
     → HasFinished o core.history got before now old new r
 core_finished laws steps ends o core m m' got before now old new r same its met all most is w =
     let h = stepped_out o m.history in
+    let left = o.board.steps - step_count m.history in
     let run = run_ended laws steps o m.history got met all most in
-    let whole = ends.closed _ m.history ∙ all_got laws o m.history got met all in
+    let whole = ends.closed left m.history ∙ all_got laws o m.history got met all in
     subst (λ (x : Recorded). HasFinished o x.history got before now old new r) same
-    (finished o m.history got h before now old new r run (_, ends.events _ m.history) (log_text laws.whole h got whole) (wrote_of o m m' before now old new r its is w))
+    (finished o m.history got h before now old new r run (_, ends.events left m.history) (log_text laws.whole h got whole) (wrote_of o m m' before now old new r its is w))

@@ -12,6 +12,7 @@ use Rattle.board_core.specs.Run.{Origin}
 use Rattle.board_io.specs.Faults.{Rose}
 use Rattle.board_io.specs.Sink.{AppendsFront}
 use Rattle.board_run.specs.Replay.{report_text}
+use Rattle.board_values.specs.declared.report.Report.{Report}
 use Rattle.event_log.specs.Events.{events_of, Step}
 use Rattle.event_log.specs.Log.{closed, unclosed, with_steps}
 use Rattle.event_log.specs.Text.{line_of, text_of}
@@ -47,6 +48,15 @@ none_open whole h is =
 pub one_open : ((es : List Entry) → es ≡ closed es ++ unclosed es) → (h : List Entry) (e : Entry) → h ≡ closed h ++ e ∷ [] → text_of (unclosed h) ≡ line_of e
 one_open whole h e is =
     ap text_of (append_cancel_left (closed h) (unclosed h) (e ∷ []) (sym (whole h) ∙ is)) ∙ append-nil (line_of e)
+
+-- after the open line the report failed
+pub report_failed : (o : Origin) (h : List Entry) (report : Report) (before mid now : ℕ) (old part new : Option (List ℕ))
+    → before ≤ mid → Appends old part (text_of (unclosed h)) → report ≡ report_of (reached o h) → Rose mid now × AppendsFront part new (report_text report)
+    → WroteEnd o h before now old new (Err WriteFault)
+report_failed o h report before mid now old part new le line is failed = (
+  omega (arith, le, failed.0),
+  prefix_after old part new (text_of (unclosed h)) (report_text (report_of (reached o h))) line (subst (λ r. AppendsFront part new (report_text r)) is failed.1),
+)
 
 -- what ended a run, by what was written last
 pub finished : (o : Origin) (begun got h : List Entry) (before now : ℕ) (old new : Option (List ℕ)) (r : Result ⊤ FinishErr)

@@ -27,7 +27,7 @@ use std::sync::Wait;
 use tx_types::{Line, NoMemory};
 
 /// Why a run has no whole text: a write failed, or memory for the report ran out.
-#[derive(Clone, Copy, Debug, PartialEq, Eq)]
+#[derive(Clone, Copy)]
 pub(crate) enum FinishErr {
     WriteFault,
     NoMemory,
