@@ -1,5 +1,5 @@
 -- Where all words were got, the closed entries are what was got, and the words are the scripts.
-use Rattle.std.proofs.Common.{◌≡◌, ℕ, zero, suc, ◌+◌, ◌-◌, ◌<◌, ◌≤◌, ◌↔◌, true, List, [], ◌∷◌, ◌++◌, length, take, refl, sym, ap, subst, ◌∙◌, ⊎_elim, append_assoc, arith, All}
+use Rattle.std.proofs.Common.{◌≡◌, ℕ, ◌+◌, ◌-◌, ◌<◌, ◌≤◌, ◌↔◌, true, List, [], ◌∷◌, ◌++◌, length, take, refl, sym, ap, subst, ◌∙◌, ⊎_elim, append_assoc, arith, All}
 use Rattle.std.proofs.lemmas.Bool.{cases_lt}
 use Rattle.std.proofs.lemmas.Bool.Decides.{nat_tests}
 use Rattle.std.proofs.lemmas.Grind.{flat_map-append}
@@ -7,7 +7,6 @@ use Rattle.std.proofs.lemmas.List.Elements.{All-head, All-nil, All-cons, All-tai
 use Rattle.std.proofs.lemmas.List.{length-append, length-take, nil_from_length, take_all}
 use Rattle.std.proofs.lemmas.List.Sums.{sum_by-append}
 use Rattle.board_core.specs.Run.{Origin}
-use Rattle.board_file.specs.declared.board.BoardDevice.{BoardDevice}
 use Rattle.board_serve.specs.Got.{HasAll}
 use Rattle.board_serve.specs.Scripts.{script_of}
 use Rattle.event_log.specs.Events.{interrupts, words_in, words_of}

@@ -1,5 +1,5 @@
 -- A core that was taken apart, whose machine then made the steps that were left.
-use Rattle.std.proofs.Common.{◌≡◌, ℕ, ◌-◌, ◌≤◌, List, ◌++◌, replicate, Option, Result, ap, sym, subst, ◌∙◌}
+use Rattle.std.proofs.Common.{◌≡◌, ℕ, ◌-◌, ◌≤◌, List, ◌++◌, replicate, Option, Result, subst, ◌∙◌}
 use Rattle.std.specs.Bool.{⊤}
 use Rattle.board_core.specs.Machine.{Recorded}
 use Rattle.board_core.specs.Run.{Origin}
@@ -7,7 +7,7 @@ use Rattle.board_serve.specs.Got.{HasAll}
 use Rattle.event_log.specs.Events.{events_of, Step}
 use Rattle.event_log.specs.Log.{closed, step_count, with_steps}
 use Rattle.event_log.specs.declared.entry.Entry.{Entry}
-use Rattle.board_live.specs.Finish.{HasBegun, HasFinished, WroteEnd, stepped_out}
+use Rattle.board_live.specs.Finish.{HasFinished, WroteEnd, stepped_out}
 use Rattle.board_live.specs.declared.finish.FinishErr.{FinishErr}
 use Rattle.board_live.proofs.Ending.{Laws, Met, StepLaws, all_got, run_ended}
 use Rattle.board_live.proofs.Texts.{finished, log_text, wrote_of}

@@ -1,5 +1,5 @@
 -- The text of a run, piece after piece.
-use Rattle.std.proofs.Common.{◌≡◌, ℕ, zero, suc, ◌+◌, ◌≤◌, min, List, [], ◌∷◌, ◌++◌, length, replicate, take, Option, Result, Ok, Err, sym, ap, subst, ◌∙◌, append_assoc, arith}
+use Rattle.std.proofs.Common.{◌≡◌, ℕ, zero, suc, ◌+◌, ◌≤◌, min, List, [], ◌∷◌, ◌++◌, length, take, Option, Result, Ok, Err, sym, ap, subst, ◌∙◌, append_assoc, arith}
 use Rattle.std.specs.Bool.{⊤}
 use Rattle.std.proofs.lemmas.Grind.{common_steps, flat_map-append}
 use Rattle.std.proofs.lemmas.List.{append-nil, append_cancel_left, length-append, nil_from_length}
@@ -13,11 +13,10 @@ use Rattle.board_io.specs.Faults.{Rose}
 use Rattle.board_io.specs.Sink.{AppendsFront}
 use Rattle.board_run.specs.Replay.{report_text}
 use Rattle.board_values.specs.declared.report.Report.{Report}
-use Rattle.event_log.specs.Events.{events_of, Step}
-use Rattle.event_log.specs.Log.{closed, unclosed, with_steps}
+use Rattle.event_log.specs.Log.{closed, unclosed}
 use Rattle.event_log.specs.Text.{line_of, text_of}
 use Rattle.event_log.specs.declared.entry.Entry.{Entry}
-use Rattle.board_live.specs.Finish.{GoesOn, HasFinished, IsRun, WroteEnd, last_text, reached, run_text, stepped_out}
+use Rattle.board_live.specs.Finish.{GoesOn, HasFinished, IsRun, WroteEnd, last_text, reached, stepped_out}
 use Rattle.board_live.specs.declared.finish.FinishErr.{FinishErr}
 use Rattle.board_live.specs.declared.finish.FinishErr.TheVariants.{WriteFault, NoMemory}
 

@@ -1,4 +1,4 @@
-use Rattle.std.proofs.Common.{◌≡◌, ◌<◌, length, sym, ◌∙◌, subst, arith}
+use Rattle.std.proofs.Common.{length, sym, ◌∙◌, subst, arith}
 use Rattle.irq_inbox.specs.Seen.{AreAllOf}
 use Rattle.board_live.proofs.Begun.{words_begun}
 use Rattle.board_live.proofs.apart.take_apart.Goals as goal

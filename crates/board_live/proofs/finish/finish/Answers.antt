@@ -1,5 +1,3 @@
-use Rattle.std.proofs.Common.{ap, subst, sym, arith}
-use Rattle.board_core.specs.Run.{Origin}
 use Rattle.board_live.proofs.Ending.{Laws, Met, StepLaws}
 use Rattle.board_live.proofs.Finished.{EndLaws, core_finished}
 use Rattle.board_live.proofs.finish.finish.Goals as goal
