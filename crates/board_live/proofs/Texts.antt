@@ -10,7 +10,7 @@ use Rattle.board_core.specs.Machine.{Recorded}
 use Rattle.board_core.specs.Report.{report_of}
 use Rattle.board_core.specs.Run.{Origin}
 use Rattle.board_io.specs.Faults.{Rose}
-use Rattle.board_io.specs.Sink.{AppendsFront}
+use Rattle.board_io.specs.Sink.{AppendsPrefix}
 use Rattle.board_run.specs.Replay.{report_text}
 use Rattle.board_values.specs.declared.report.Report.{Report}
 use Rattle.event_log.specs.Log.{closed, unclosed}
@@ -26,11 +26,11 @@ take-min (a ∷ x) y zero = grind (arith, common_steps)
 take-min (a ∷ x) y (suc n) = grind (arith, common_steps, take-min x y n)
 
 -- a prefix of a text is a prefix of a longer one
-pub prefix_longer : (old new : Option (List ℕ)) (x y : List ℕ) → AppendsFront old new x → AppendsFront old new (x ++ y)
+pub prefix_longer : (old new : Option (List ℕ)) (x y : List ℕ) → AppendsPrefix old new x → AppendsPrefix old new (x ++ y)
 prefix_longer old new x y p = (min p.0 (length x), subst (Appends old new) (sym (take-min x y p.0)) p.1)
 
 -- a text and then a prefix of the next
-pub prefix_after : (old mid new : Option (List ℕ)) (x y : List ℕ) → Appends old mid x → AppendsFront mid new y → AppendsFront old new (x ++ y)
+pub prefix_after : (old mid new : Option (List ℕ)) (x y : List ℕ) → Appends old mid x → AppendsPrefix mid new y → AppendsPrefix old new (x ++ y)
 prefix_after old mid new x y p q =
     (length x + q.0, subst (Appends old new) (sym (take-append-add x y q.0)) (Appends-trans old mid new x (take q.0 y) p q.1))
 
@@ -50,11 +50,11 @@ one_open whole h e is =
 
 -- after the open line the report failed
 pub report_failed : (o : Origin) (h : List Entry) (report : Report) (before mid now : ℕ) (old part new : Option (List ℕ))
-    → before ≤ mid → Appends old part (text_of (unclosed h)) → report ≡ report_of (reached o h) → Rose mid now × AppendsFront part new (report_text report)
+    → before ≤ mid → Appends old part (text_of (unclosed h)) → report ≡ report_of (reached o h) → Rose mid now × AppendsPrefix part new (report_text report)
     → WroteEnd o h before now old new (Err WriteFault)
 report_failed o h report before mid now old part new le line is failed = (
   omega (arith, le, failed.0),
-  prefix_after old part new (text_of (unclosed h)) (report_text (report_of (reached o h))) line (subst (λ r. AppendsFront part new (report_text r)) is failed.1),
+  prefix_after old part new (text_of (unclosed h)) (report_text (report_of (reached o h))) line (subst (λ r. AppendsPrefix part new (report_text r)) is failed.1),
 )
 
 -- what ended a run, by what was written last

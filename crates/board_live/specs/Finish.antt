@@ -5,7 +5,7 @@ use Rattle.board_core.specs.Report.{report_of}
 use Rattle.board_core.specs.Run.{Origin, run}
 use Rattle.board_core.specs.World.{World}
 use Rattle.board_io.specs.Faults.{Rose}
-use Rattle.board_io.specs.Sink.{AppendsFront}
+use Rattle.board_io.specs.Sink.{AppendsPrefix}
 use Rattle.board_run.specs.Replay.{report_text}
 use Rattle.board_serve.specs.Scripts.{script_of}
 use Rattle.event_log.specs.Events.{Event, events_of, words_of}
@@ -53,7 +53,7 @@ abbrev pub WroteEnd : Origin → List Entry → (before now : ℕ) → (old new 
     → Result ⊤ FinishErr → Type 0
 WroteEnd o h before now old new (Ok _) = Appends old new (last_text o h)
 WroteEnd o h before now old new (Err WriteFault) =
-    Rose before now × AppendsFront old new (last_text o h)
+    Rose before now × AppendsPrefix old new (last_text o h)
 WroteEnd o h before now old new (Err NoMemory) = Appends old new (text_of (unclosed h))
 
 -- there is a whole run that begins with the events of a history, and the lines of what was got and
@@ -71,6 +71,6 @@ HasFinished o begun got before now old new (Ok _) =
     (rest : List ℕ) × EndsRun o begun got (run_text o) rest × Appends old new rest
 HasFinished o begun got before now old new (Err WriteFault) =
     (rest : List ℕ) × EndsRun o begun got (run_text o) rest
-    × Rose before now × AppendsFront old new rest
+    × Rose before now × AppendsPrefix old new rest
 HasFinished o begun got before now old new (Err NoMemory) =
     (rest : List ℕ) × EndsRun o begun got text_of rest × Appends old new rest
