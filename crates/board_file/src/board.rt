@@ -7,7 +7,7 @@ use crate::text::PathText;
 use tx_types::{ModNo, Name};
 
 /// What a board file says: how many bytes of RAM, how many steps, and the lists of its parts.
-#[derive(Clone, Debug, Drop)]
+#[derive(Clone, Drop)]
 pub struct Board {
     pub ram: u32,
     pub steps: u32,
@@ -35,7 +35,7 @@ impl Board {
 }
 
 /// A module: its name, the file of its image, and whether it is started at once.
-#[derive(Clone, Debug, Drop)]
+#[derive(Clone, Drop)]
 pub struct BoardModule {
     pub name: Name,
     pub image: PathText,
@@ -43,7 +43,7 @@ pub struct BoardModule {
 }
 
 /// The `size` addresses from `base` on, shared by the modules whose bits are set in `who`.
-#[derive(Clone, Debug, Drop)]
+#[derive(Clone, Drop)]
 pub struct BoardShare {
     pub base: u32,
     pub size: u32,
@@ -52,7 +52,7 @@ pub struct BoardShare {
 }
 
 /// A device: what an interrupt of it does, to what, and the words that it raises.
-#[derive(Clone, Debug, Drop)]
+#[derive(Clone, Drop)]
 pub struct BoardDevice {
     pub name: Name,
     pub action: Action,
@@ -61,7 +61,7 @@ pub struct BoardDevice {
 }
 
 /// Words of a module's data that the report shows, from an offset on.
-#[derive(Clone, Debug, Drop)]
+#[derive(Clone, Drop)]
 pub struct BoardShow {
     pub module: ModNo,
     pub offset: u32,

@@ -5,7 +5,7 @@ use crate::board::{BoardDevice, BoardModule, BoardShare, BoardShow};
 use std::marker::Model;
 
 /// The modules of a board, in their order.
-#[derive(Clone, Debug, Drop)]
+#[derive(Clone, Drop)]
 pub struct BoardModules {
     items: Vec<BoardModule>,
 }
@@ -45,7 +45,7 @@ impl BoardModules {
 }
 
 /// The shared ranges of a board, in their order.
-#[derive(Clone, Debug, Drop)]
+#[derive(Clone, Drop)]
 pub struct BoardShares {
     items: Vec<BoardShare>,
 }
@@ -85,7 +85,7 @@ impl BoardShares {
 }
 
 /// The devices of a board, in their order.
-#[derive(Clone, Debug, Drop)]
+#[derive(Clone, Drop)]
 pub struct BoardDevices {
     items: Vec<BoardDevice>,
 }
@@ -125,7 +125,7 @@ impl BoardDevices {
 }
 
 /// What a report shows of the modules' data, in order.
-#[derive(Clone, Debug, Drop)]
+#[derive(Clone, Drop)]
 pub struct BoardShows {
     items: Vec<BoardShow>,
 }
@@ -165,7 +165,7 @@ impl BoardShows {
 }
 
 /// The words of a device's script, in order.
-#[derive(Clone, Debug, Drop)]
+#[derive(Clone, Drop)]
 pub struct Script {
     items: Vec<u32>,
 }

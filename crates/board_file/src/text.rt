@@ -5,7 +5,7 @@
 use std::marker::Model;
 
 /// The path of an image file, as the board file gives it.
-#[derive(Clone, Debug, Drop)]
+#[derive(Clone, Drop)]
 pub struct PathText {
     text: String,
 }

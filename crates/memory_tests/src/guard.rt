@@ -5,7 +5,7 @@
 
 use crate::samples::{CODE, DATA, SHARE, add, memory};
 use region_guard::Access::{Fetch, Load, Store};
-use region_guard::{Access, AddErr, Guard, Region};
+use region_guard::{Access, AddErr, Guard, Region, Rights};
 use std::process::Abort;
 use std::test::Fail;
 use tx_types::ModNo;
@@ -53,17 +53,12 @@ const REFUSED: [Use; 18] = [
 fn check(rt: &impl Abort, g: &Guard, uses: &[Use], allowed: bool) {
     for (m, access, a, n) in uses {
         let m = ModNo::new(*m % 16);
-        let answers = [
-            g.may(m, *access, *a, *n),
-            g.reaches(m, *access, *a, *n),
-            g.bytes(m, *access, *a, *n).is_some(),
-        ];
-        let of_none = [g.may(m, *access, *a, 0), g.reaches(m, *access, *a, 0)];
-        assert_eq!(rt;
-            (answers, of_none),
-            ([allowed; 3], [true, false]),
-            "{n} bytes at {a:x}"
-        );
+        let is = g.may(m, *access, *a, *n) == allowed
+            && g.reaches(m, *access, *a, *n) == allowed
+            && g.bytes(m, *access, *a, *n).is_some() == allowed
+            && g.may(m, *access, *a, 0)
+            && !g.reaches(m, *access, *a, 0);
+        assert!(rt; is, "{n} bytes at {a:x}");
     }
 }
 
@@ -75,6 +70,16 @@ fn a_range_lies_in_one_region_that_allows_it(rt: HostRuntime) -> Result<(), Fail
     Ok(())
 }
 
+/// The two bytes at an address, where module 0 may load them.
+fn half(g: &Guard, a: u32) -> Option<u32> {
+    let m = ModNo::new(0);
+    if g.may(m, Load, a, 2) {
+        Some(g.get(m, Load, a, 2))
+    } else {
+        None
+    }
+}
+
 #[test]
 fn what_is_stored_is_read(rt: HostRuntime) -> Result<(), Fail> {
     let mut g = memory(rt.alloc(), &[CODE, DATA, SHARE])?;
@@ -82,11 +87,8 @@ fn what_is_stored_is_read(rt: HostRuntime) -> Result<(), Fail> {
     if g.may(m, Store, 0x8000_01DC, 4) {
         g.put(m, 0x8000_01DC, 4, 0x0403_0201);
     }
-    let half = g
-        .may(m, Load, 0x8000_01DD, 2)
-        .then(|| g.get(m, Load, 0x8000_01DD, 2));
-    let last = [g.byte(m, Load, 0x8000_01DF), g.byte(m, Store, 0x8000_01E0)];
-    assert_eq!(rt; (half, last), (Some(0x0302), [Some(4), None]));
+    let last = g.byte(m, Load, 0x8000_01DF) == Some(4) && g.byte(m, Store, 0x8000_01E0).is_none();
+    assert!(rt; half(&g, 0x8000_01DD) == Some(0x0302) && last);
     assert_eq!(rt; read(&g, 0x8000_01DA, 6), [0, 0, 1, 2, 3, 4].as_slice());
     Ok(())
 }
@@ -98,12 +100,10 @@ fn a_window_is_the_very_bytes(rt: HostRuntime) -> Result<(), Fail> {
     if g.reaches(m, Store, 0x8000_01DC, 2) {
         g.window(m, 0x8000_01DC, 2).copy_from_slice(&[7, 8]);
     }
-    let written = [
-        g.with_window(m, 0x8000_01DF, 1, |w| w.fill(9)),
-        g.with_window(m, 0x8000_01DF, 2, |w| w.fill(1)),
-        g.with_window(m, 0x8000_01DF, 0, |w| w.fill(1)),
-    ];
-    assert_eq!(rt; written, [Some(()), None, None]);
+    let one = g.with_window(m, 0x8000_01DF, 1, |w| w.fill(9));
+    let two = g.with_window(m, 0x8000_01DF, 2, |w| w.fill(1));
+    let none = g.with_window(m, 0x8000_01DF, 0, |w| w.fill(1));
+    assert!(rt; one.is_some() && two.is_none() && none.is_none());
     assert_eq!(rt; read(&g, 0x8000_01DA, 6), [0, 0, 7, 8, 0, 9].as_slice());
     Ok(())
 }
@@ -125,7 +125,12 @@ const OVERLAPS: [(u32, u32, u8); 6] = [
 
 /// A region of module 0's.
 fn region(base: u32, size: u32) -> Region {
-    Region { base, size, ..DATA }
+    Region {
+        base,
+        size,
+        rights: Rights::ReadWrite,
+        who: 1,
+    }
 }
 
 #[test]

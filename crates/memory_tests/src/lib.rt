@@ -1,7 +1,7 @@
-//! RAM, guarded memory, arguments in it and places of modules, tested against values worked by hand:
-//! `flat_ram`, `region_guard`, `call_arguments` and `module_loader`.
+//! Guarded memory, arguments in it and places of modules, tested against values worked by hand:
+//! `region_guard`, `call_arguments` and `module_loader`, over `flat_ram`.
 //!
-//! The tests stand above the four crates, which are proved once that way, and ask for public items alone.
+//! The tests stand above these crates, which are proved once that way, and ask for public items alone.
 #![tactic(auto)]
 
 #[cfg(test)]
@@ -11,8 +11,4 @@ mod guard;
 #[cfg(test)]
 mod places;
 #[cfg(test)]
-mod ram;
-#[cfg(test)]
 mod samples;
-#[cfg(test)]
-mod threads;

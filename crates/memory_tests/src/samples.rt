@@ -51,7 +51,7 @@ pub fn add(g: &mut Guard, r: Region) -> Option<Result<(), AddErr>> {
         && r.base >= RAM_BASE
         && r.size <= g.size()
         && r.base - RAM_BASE <= g.size() - r.size;
-    is_in_ram.then(|| g.add(r))
+    if is_in_ram { Some(g.add(r)) } else { None }
 }
 
 /// A module of 224 bytes of code, whose shell entry is 128.
