@@ -46,11 +46,18 @@ enum Move {
 }
 
 /// What a turn answered, in plain numbers.
-fn answered(turn: Option<Turn>) -> Answer {
+fn answered(turn: Turn) -> Answer {
     match turn {
-        Some(Turn::Took(d, w)) => Answer::Took(d.number(), w),
-        Some(Turn::Stepped) => Answer::Stepped,
-        Some(Turn::Idle) => Answer::Idle,
+        Turn::Took(d, w) => Answer::Took(d.number(), w),
+        Turn::Stepped => Answer::Stepped,
+        Turn::Idle => Answer::Idle,
+    }
+}
+
+/// Makes a turn where the history has room for an interrupt.
+fn turns<O: Session, R: Wait>(rt: &R, bench: &mut Bench<'_, O>, may_step: bool) -> Answer {
+    match bench.turn(rt, may_step) {
+        Some(turn) => answered(turn),
         None => Answer::Full,
     }
 }
@@ -64,8 +71,8 @@ fn make<O: Session, R: Wait>(
 ) -> Result<bool, Fail> {
     match m {
         Move::Raise(d, w) => Ok(bench.raise(rt, d, w).is_ok()),
-        Move::Turn(want) => Ok(answered(bench.turn(rt, true)) == want),
-        Move::Still(want) => Ok(answered(bench.turn(rt, false)) == want),
+        Move::Turn(want) => Ok(turns(rt, bench, true) == want),
+        Move::Still(want) => Ok(turns(rt, bench, false) == want),
         Move::Step(want) => Ok(bench.step() == want),
         Move::Carries(want) => carries(rt, alloc, bench, want),
         Move::History(want) => has(alloc, bench, want),

@@ -1,7 +1,8 @@
 //! A booted board of one module and two devices, with an inbox and a lane of its own.
-ghost use Rattle.std.specs.Prelude.{◌≡◌, ◌+◌, ◌*◌, true, [], length, IfOk};
+ghost use Rattle.std.specs.Prelude.{◌≡◌, ◌+◌, ◌*◌, true, [], length, IfOk, IfSome};
 ghost use Rattle.board_file.specs.Board.{script_words};
 ghost use Rattle.board_file.specs.Rules.{IsBoard};
+ghost use Rattle.irq_inbox.specs.Seen.{AreAllOf};
 
 use board_core::Machine;
 use board_file::{Board, read_board};
@@ -93,7 +94,7 @@ fn booted(alloc: Global, board: &Board, most: u32) -> Result<Machine, Fail>
     requires most { most ≡ script_words board.now.devices }
     ensures board { IfOk result (λ m. m.origin.board ≡ board.now) }
     ensures fresh { IfOk result (λ m. m.history ≡ []) }
-    ensures most { IfOk result (λ m. m.irqs ≡ most) }
+    ensures most { IfOk result (λ m. m.irqs ≡ script_words m.origin.board.devices) }
 {
     let images = vec![in alloc; image(alloc)?]?;
     if images.len() != board.modules.items().len() {
@@ -102,25 +103,36 @@ fn booted(alloc: Global, board: &Board, most: u32) -> Result<Machine, Fail>
     Ok(Machine::boot(alloc, board, &images, most)?)
 }
 
+/// The passes of the first two devices of an inbox.
+fn first_two(inbox: &Inbox, devs: Vec<DevPass>) -> Option<(DevPass, DevPass)>
+    requires { AreAllOf inbox.now (length devs.items) devs.items }
+    ensures one { IfSome result (λ p. p.0.inbox ≡ inbox.now) }
+    ensures two { IfSome result (λ p. p.1.inbox ≡ inbox.now) }
+{
+    let _ = inbox;
+    let mut passes = devs.into_iter();
+    let one = passes.next()?;
+    let two = passes.next()?;
+    Some((one, two))
+}
+
 /// All of it of the board of this file.
 pub fn boot_parts<R: Wait>(rt: &R, alloc: Global) -> Result<Parts, Fail> {
     let board = read_board(alloc, BOARD.as_bytes()).map_err(|_| "not a board")?;
     let most = board.words();
     let devices = board.devices.items().len() as u8;
     let machine = booted(alloc, &board, most)?;
-    let (inbox, cpu, mut devs) = Inbox::new(rt, alloc, devices)?;
+    let (inbox, cpu, devs) = Inbox::new(rt, alloc, devices)?;
     let (lane, put, get) = Lane::new(rt, alloc, 2 * most + 1)?;
-    match (devs.pop(), devs.pop()) {
-        (Some(two), Some(one)) => Ok(Parts {
-            machine,
-            inbox,
-            cpu,
-            one,
-            two,
-            lane,
-            put,
-            get,
-        }),
-        _ => Err(Fail::from("a board of two devices")),
-    }
+    let (one, two) = first_two(&inbox, devs).ok_or("a board of two devices")?;
+    Ok(Parts {
+        machine,
+        inbox,
+        cpu,
+        one,
+        two,
+        lane,
+        put,
+        get,
+    })
 }
