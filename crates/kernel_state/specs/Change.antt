@@ -1,13 +1,8 @@
 -- What a change leaves: the kernel, memory, and the waits that it ended, which the kernel counts and doesn't keep.
 use Rattle.std.specs.Prelude.{ℕ, List, [], ◌++◌}
-use Rattle.tx_types.specs.declared.waits.End.{End}
+use Rattle.tx_types.specs.End.{WaitEnd}
 use Rattle.region_guard.specs.Memory.{Memory}
 use Rattle.kernel_state.specs.declared.kernel.Kernel.{Kernel}
-
--- a wait that ended, by its number
-pub record WaitEnd : Type 0 where
-  pub wait : ℕ
-  pub how : End
 
 pub record Change : Type 0 where
   pub kernel : Kernel
