@@ -53,7 +53,8 @@ taken_begun devices passes got left d lt sent is =
     shorter (script_of devices d) (words d got) (words d left) k (sym prefix ∙ (sym same ∙ is))
 
 -- of each device, board's or not
-pub words_begun : ((d : ℕ) (es : List Entry) → words_of d es ≡ words d (interrupts es)) → (devices : List BoardDevice) (passes : List DevSeen) (h : List Entry) (got left : List (ℕ × ℕ))
+pub words_begun : ((d : ℕ) (es : List Entry) → words_of d es ≡ words d (interrupts es)) → (devices : List BoardDevice)
+    (passes : List DevSeen) (h : List Entry) (got left : List (ℕ × ℕ))
     → IsHistory (length devices) h → interrupts h ≡ got → length passes ≡ length devices → HaveSentOf devices passes
     → ((d : ℕ) → d < length devices → slice_index_or (map (λ (p : DevSeen). p.sent) passes) d [] ≡ words d got ++ words d left)
     → (d : ℕ) → (k : ℕ) × (words_of d h ≡ take k (script_of devices d))

@@ -112,7 +112,8 @@ pub record StepLaws : Type 0 where
   pub history : (devices n : ℕ) (es : List Entry) → is_history devices es ≡ true → step_count es + n ≤ 100000000 → is_history devices (with_steps n es) ≡ true
 
 -- with the steps that are left it is a whole run
-pub run_ended : (laws : Laws) (steps : StepLaws) (o : Origin) (h got : List Entry) → Met o h got → HasAll o.board.devices got → o.board.steps ≤ 100000000 → IsRun o (stepped_out o h)
+pub run_ended : (laws : Laws) (steps : StepLaws) (o : Origin) (h got : List Entry) → Met o h got → HasAll o.board.devices got
+    → o.board.steps ≤ 100000000 → IsRun o (stepped_out o h)
 run_ended laws steps o h got m all most =
     let n = length o.board.devices in
     let left = o.board.steps - step_count h in

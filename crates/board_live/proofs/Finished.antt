@@ -17,7 +17,8 @@ pub record EndLaws : Type 0 where
   pub closed : (n : ℕ) (es : List Entry) → closed (with_steps n es) ≡ closed es
   pub events : (n : ℕ) (es : List Entry) → events_of (with_steps n es) ≡ events_of es ++ replicate n Step
 
-pub core_finished : (laws : Laws) (steps : StepLaws) (ends : EndLaws) (o : Origin) (core m m' : Recorded) (got : List Entry) (before now : ℕ) (old new : Option (List ℕ)) (r : Result ⊤ FinishErr)
+pub core_finished : (laws : Laws) (steps : StepLaws) (ends : EndLaws) (o : Origin) (core m m' : Recorded) (got : List Entry)
+    (before now : ℕ) (old new : Option (List ℕ)) (r : Result ⊤ FinishErr)
     → m ≡ core → m.origin ≡ o → Met o m.history got → HasAll o.board.devices got → o.board.steps ≤ 100000000
     → m' ≡ record m { history = stepped_out m.origin m.history } → WroteEnd m'.origin m'.history before now old new r
     → HasFinished o core.history got before now old new r
@@ -27,4 +28,5 @@ core_finished laws steps ends o core m m' got before now old new r same its met 
     let run = run_ended laws steps o m.history got met all most in
     let whole = ends.closed left m.history ∙ all_got laws o m.history got met all in
     subst (λ (x : Recorded). HasFinished o x.history got before now old new r) same
-    (finished o m.history got h before now old new r run (_, ends.events left m.history) (log_text laws.whole h got whole) (wrote_of o m m' before now old new r its is w))
+    (finished o m.history got h before now old new r run (_, ends.events left m.history)
+    (log_text laws.whole h got whole) (wrote_of o m m' before now old new r its is w))

@@ -59,7 +59,8 @@ report_failed o h report before mid now old part new le line is failed = (
 
 -- what ended a run, by what was written last
 pub finished : (o : Origin) (begun got h : List Entry) (before now : ℕ) (old new : Option (List ℕ)) (r : Result ⊤ FinishErr)
-    → IsRun o h → GoesOn begun h → text_of got ++ text_of (unclosed h) ≡ text_of h → WroteEnd o h before now old new r → HasFinished o begun got before now old new r
+    → IsRun o h → GoesOn begun h
+    → text_of got ++ text_of (unclosed h) ≡ text_of h → WroteEnd o h before now old new r → HasFinished o begun got before now old new r
 finished o begun got h before now old new (Ok v) run on text w =
     let report = report_text (report_of (reached o h)) in
     (last_text o h, (h, run, on, sym (append_assoc (text_of got) (text_of (unclosed h)) report) ∙ ap (λ t. t ++ report) text), w)

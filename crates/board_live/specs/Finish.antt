@@ -1,5 +1,6 @@
 -- How a run of a board ends: its history, its text, and what of that is written at the end.
-use Rattle.std.specs.Prelude.{◌≡◌, ℕ, ◌-◌, ◌≤◌, List, ◌++◌, length, take, ⊤, Option, Result, Ok, Err}
+use Rattle.std.specs.Prelude.{◌≡◌, ℕ, ◌-◌, ◌≤◌, List, ◌++◌, length, take, Option, Result, Ok, Err}
+use Rattle.std.specs.Bool.{⊤}
 use Rattle.std.specs.Io.KnownBytes.{Appends}
 use Rattle.board_core.specs.Report.{report_of}
 use Rattle.board_core.specs.Run.{Origin, run}
@@ -58,8 +59,8 @@ WroteEnd o h before now old new (Err NoMemory) = Appends old new (text_of (unclo
 
 -- there is a whole run that begins with the events of a history, and the lines of what was got and
 -- then the rest are its text
-abbrev pub EndsRun : Origin → (begun got : List Entry) → (text : List Entry → List ℕ) → (rest : List ℕ)
-    → Type 0
+abbrev pub EndsRun : Origin → (begun got : List Entry) → (text : List Entry → List ℕ)
+    → (rest : List ℕ) → Type 0
 EndsRun o begun got text rest =
     (h : List Entry) × IsRun o h × GoesOn begun h × (text_of got ++ rest ≡ text h)
 

@@ -1,5 +1,5 @@
-//! A core is taken apart when its devices have ended: what they sent is held against what was taken,
-//! and what went into the lane against what was got from it.
+//! A core is taken apart when its devices have ended: what they sent is held against what was
+//! taken, and what went into the lane against what was got from it.
 //!
 //! Here alone the passes of a run come together, so here it is known that no word was lost.
 ghost use Rattle.std.specs.Prelude.{◌≡◌, true, List, ◌++◌, length};
@@ -16,8 +16,8 @@ use kernel_lock::{Core, Session, words_are_those_of_interrupts};
 use log_lane::GetPass;
 use std::sync::Wait;
 
-/// Gathers the passes of all devices and closes the lane; the machine is what is left. Its history is
-/// a run so far, and what was got from the lane are its closed entries up to some point.
+/// Gathers the passes of all devices and closes the lane; the machine is what is left. Its history
+/// is a run so far, and what was got from the lane are its closed entries up to some point.
 pub(crate) fn take_apart<'a, R: Wait, O: Session>(
     rt: &R,
     core: Core<'a, O>,

@@ -1,8 +1,8 @@
 //! The end of a run that was served: the steps that are left are made, and the rest of its text is
 //! written.
 //!
-//! The open line of steps is written before memory is looked for, so that without a report the log is
-//! whole.
+//! The open line of steps is written before memory is looked for, so that without a report the log
+//! is whole.
 ghost use Rattle.std.specs.Prelude.{◌≡◌, ◌≤◌, true, length};
 ghost use Rattle.board_io.specs.Sink.{Wrote};
 ghost use Rattle.board_serve.specs.Got.{HasAll};
@@ -98,8 +98,8 @@ fn write_end<S: Sink>(alloc: Global, machine: &Machine, sink: &mut S) -> Result<
 /// Ends the run of a core from which all words of all devices were got, and writes what of its text
 /// wasn't written yet.
 ///
-/// `Ok`: what was got before and what was written here are the text of one run, with all words and all
-/// steps. `WriteFault`: a write failed in this call, and a prefix of that rest was written.
+/// `Ok`: what was got before and what was written here are the text of one run, with all words and
+/// all steps. `WriteFault`: a write failed in this call, and a prefix of that rest was written.
 /// `NoMemory`: the rest of the log was written, and no report.
 pub(crate) fn finish<'a, R: Wait, O: Session, S: Sink>(
     rt: &R,

@@ -11,7 +11,8 @@ returns-clause-begun g c =
     let is = (c.a_history_stays_one.ensures.tested (length devices) history).0 h.history in
     record {
       history = is;
-      words = words_begun c.words_are_those_of_interrupts.ensures devices c.args.devs.items history c.args.core.pass.got c.gather.ensures.sent.0 is h.taken c.requires.devs.0 c.requires.sent
+      words = words_begun c.words_are_those_of_interrupts.ensures devices c.args.devs.items history c.args.core.pass.got
+          c.gather.ensures.sent.0 is h.taken c.requires.devs.0 c.requires.sent
           (λ d lt. c.gather.ensures.sent.1 d (omega (arith, lt, h.devices)));
       steps = h.steps;
     }

@@ -12,4 +12,5 @@ returns-clause-finished g c =
     let steps : StepLaws = record { words = grows.words; steps = grows.steps; history = stays.steps } in
     let ends : EndLaws = record { closed = closes.steps; events = grows.events } in
     let met : Met _ _ _ = record { begun = apart.begun; left = apart.got.0; closed = apart.got.1 } in
-    core_finished laws steps ends _ _ _ _ _ _ _ _ _ _ apart.machine apart.origin met c.requires.all c.args.core.holds.rules.steps c.step_out.ensures c.write_end.ensures.wrote
+    core_finished laws steps ends _ _ _ _ _ _ _ _ _ _ apart.machine apart.origin met
+    c.requires.all c.args.core.holds.rules.steps c.step_out.ensures c.write_end.ensures.wrote

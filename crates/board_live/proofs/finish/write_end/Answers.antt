@@ -14,4 +14,5 @@ returns-in_err-write_report-clause-wrote g c =
     let p = err_from_is_err_and residual.result residual.ensures.1 in
     let m = c.args.machine.now in
     let line = c.in_ok-write_open.ensures in
-    rw (p.1, p.2) (report_failed m.origin m.history c.in_ok-report.report _ _ _ _ _ _ line.faults line.wrote c.in_ok-report.ensures.report c.in_err-write_report.ensures.wrote)
+    rw (p.1, p.2) (report_failed m.origin m.history c.in_ok-report.report _ _ _ _ _ _
+    line.faults line.wrote c.in_ok-report.ensures.report c.in_err-write_report.ensures.wrote)
