@@ -6,7 +6,7 @@ use Rattle.board_file.specs.Rules.{IsBoard}
 use Rattle.board_file.specs.declared.board.Board.{Board}
 use Rattle.event_log.specs.Log.{IsEntry, Log}
 use Rattle.event_log.specs.declared.entry.Entry.{Entry}
-use Rattle.kernel_state.specs.Sound.{IsSound}
+use Rattle.kernel_state.specs.Serves.{Serves}
 use Rattle.board_core.specs.Boot.{booted, booted_parts, loaded_modules}
 use Rattle.board_core.specs.Laid.{AreLaid}
 use Rattle.board_core.specs.Laws.{images_in}
@@ -28,9 +28,9 @@ booted_is : (b : Board) (images : List (List ℕ)) → booted b images ≡ world
 unfolding booted
 booted_is b images = refl
 
-stands_at_first : (b : Board) (images : List (List ℕ)) (p : Parts) → IsBoard b → IsSound p.kernel → AreLaid p.memory p.modules
+stands_at_first : (b : Board) (images : List (List ℕ)) (p : Parts) → IsBoard b → Serves p.kernel p.memory → AreLaid p.memory p.modules
     → p ≡ booted_parts b images → images_in p.memory p.modules ≡ images → length p.modules ≡ length b.modules → Stands b p []
-stands_at_first b images p board sound laid same theirs count =
+stands_at_first b images p board serves laid same theirs count =
     let as_many : length b.modules ≡ length (loaded_modules b images) =
     sym count ∙ (ap (λ (q : Parts). length q.modules) same ∙ booted_count b images) in
     let fresh : p.devices ≡ replicate (length b.devices) fresh_device = ap (λ (q : Parts). q.devices) same ∙ booted_devices b images in
@@ -38,7 +38,7 @@ stands_at_first b images p board sound laid same theirs count =
       run = ap (booted b) theirs ∙ (booted_is b images ∙ ap (world_with b) (sym same));
       world = record {
         board = board;
-        kernel = sound;
+        serves = serves;
         memory = laid.memory;
         regions = laid.regions;
         modules = count;
@@ -51,12 +51,12 @@ stands_at_first b images p board sound laid same theirs count =
       counts = subst (λ (xs : List Device). AreCounted xs []) (sym fresh) (fresh_counts (length b.devices));
     }
 
-pub stands : (given b : Board) (images : List (List ℕ)) (p : Parts) (entries : List Entry) → given ≡ b → IsBoard b → IsSound p.kernel
+pub stands : (given b : Board) (images : List (List ℕ)) (p : Parts) (entries : List Entry) → given ≡ b → IsBoard b → Serves p.kernel p.memory
     → AreLaid p.memory p.modules → p ≡ booted_parts b images → images_in p.memory p.modules ≡ images → length p.modules ≡ length b.modules
     → entries ≡ [] → Stands given p entries
-stands given b images p entries copied board sound laid same theirs count none =
+stands given b images p entries copied board serves laid same theirs count none =
     subst (λ (c : Board). Stands c p entries) (sym copied)
-    (subst (Stands b p) (sym none) (stands_at_first b images p board sound laid same theirs count))
+    (subst (Stands b p) (sym none) (stands_at_first b images p board serves laid same theirs count))
 
 -- what a machine stands for, by its origin and its history
 abbrev recorded_of : Origin → Log → Recorded

@@ -21,13 +21,15 @@ use Rattle.kernel_state.specs.Outcome.{Outcome, found, unless}
 use Rattle.kernel_state.specs.declared.kernel.Kernel.{Kernel}
 use Rattle.kernel_state.specs.declared.thread.Thread.{Thread}
 use Rattle.thread_calls.specs.ThreadRows.{resumption, starting}
-use Rattle.call_dispatch.specs.Ecall.{arguments, dispatched, number_asked}
+use Rattle.kernel_state.specs.Range.{Range, WritesAlone}
+use Rattle.kernel_state.specs.Registers.{arguments, number_asked}
+use Rattle.call_dispatch.specs.Ecall.{dispatched}
 use Rattle.call_dispatch.specs.Laws.{CallWritesItsResultAlone}
-use Rattle.call_dispatch.specs.Results.{Range, IsOutsideOf, call_result}
 use Rattle.call_dispatch.specs.Rows.{call_row}
+use Rattle.module_manager.specs.Laws.{HaltKeepsMemory}
 use Rattle.board_core.specs.Action.{acted, device_of, resumed_by_name}
 use Rattle.board_core.specs.Bus.{seen}
-use Rattle.board_core.specs.Frame.{IsOutsideAll, effect_frame, frame, if_any, step_frame}
+use Rattle.board_core.specs.Frame.{effect_frame, frame, step_frame}
 use Rattle.board_core.specs.Laws.{FrameLaw, IsWorld}
 use Rattle.board_core.specs.After.{after}
 use Rattle.board_core.specs.Step.{after_effect, after_fault, next_effect, stepped, stepped_by, with_hart}
@@ -45,19 +47,14 @@ pub record Lower : Type 0 where
   pub outside_stays : BytesOutsideStay
   pub in_ram : UsedIsInRam
   pub call : CallWritesItsResultAlone
+  pub halt : HaltKeepsMemory
 
--- the regions and the size of RAM stay, and so does each byte outside of ranges
-pub record ChangesWithin (ranges : List Range) (g now : Memory) : Type 0 where
-  pub regions : now.regions ≡ g.regions
-  pub size : length now.bytes ≡ length g.bytes
-  pub bytes : (x : ℕ) → IsOutsideAll ranges x → byte now x ≡ byte g x
-
-nothing_changes : (g : Memory) → ChangesWithin [] g g
+nothing_changes : (g : Memory) → WritesAlone [] g g
 nothing_changes g = record { regions = refl; size = refl; bytes = λ x outside. refl }
 
 -- a store that is allowed
 stored_within : Lower → (g : Memory) (m a n value : ℕ) → IsSoundMemory g → 0 < n → may g m Store a n ≡ true
-    → ChangesWithin (record { base = a; size = n } ∷ []) g (with_number g a n value)
+    → WritesAlone (record { base = a; size = n } ∷ []) g (with_number g a n value)
 stored_within lower g m a n value sound some allowed =
     let stored = low_bytes n value in
     let here : Range = record { base = a; size = n } in
@@ -71,54 +68,45 @@ stored_within lower g m a n value sound some allowed =
     }
 
 -- a call
-outside_of : (r : Option Range) (x : ℕ) → IsOutsideAll (if_any r) x → IsOutsideOf r x
-outside_of None x outside = tt
-outside_of (Some r) x outside = All-head (λ (s : Range). IsOutside s.base s.size x) r [] outside
-
-called_within : Lower → (k : Kernel) (g : Memory) (t n : ℕ) (a : List ℕ) → IsSoundMemory g
-    → ChangesWithin (if_any (call_result n k g t a)) g (call_row n k g t a).memory
-called_within lower k g t n a sound =
-    let alone = lower.call k g t n a sound in
-    record { regions = alone.regions; size = alone.size; bytes = λ x outside. alone.bytes x (outside_of (call_result n k g t a) x outside) }
-
 dispatched_within : Lower → (w : World) (t : ℕ) (h : HartState) → IsWorld w → t < 256
-    → ChangesWithin (effect_frame w.parts t (Calls h)) w.parts.memory (dispatched (with_hart w.parts.kernel t h) w.parts.memory t).memory
+    → WritesAlone (effect_frame w.parts t (Calls h)) w.parts.memory (dispatched (with_hart w.parts.kernel t h) w.parts.memory t).change.memory
 unfolding dispatched
 dispatched_within lower w t h world below =
     let k = with_hart w.parts.kernel t h in
-    let same : (thread k t).hart ≡ h = ap (λ (u : Thread). u.hart) (thread-with_hart w.parts.kernel t h world.kernel below) in
+    let same : (thread k t).hart ≡ h = ap (λ (u : Thread). u.hart) (thread-with_hart w.parts.kernel t h world.serves.sound below) in
     subst (λ (f : HartState).
-    ChangesWithin (effect_frame w.parts t (Calls h)) w.parts.memory (call_row (number_asked f) k w.parts.memory t (arguments f)).memory)
-    (sym same) (called_within lower k w.parts.memory t (number_asked h) (arguments h) world.memory)
+    WritesAlone (effect_frame w.parts t (Calls h)) w.parts.memory (call_row (number_asked f) k w.parts.memory t (arguments f)).change.memory)
+    (sym same) (lower.call k w.parts.memory t (number_asked h) (arguments h) world.memory)
 
 -- a step
 effect_within : Lower → (w : World) (t : ℕ) (e : Effect) → IsWorld w → t < 256 → IsAllowed (seen (module_of w.parts.kernel t) w.parts.memory) e
-    → ChangesWithin (effect_frame w.parts t e) w.parts.memory (after_effect w.parts t e).memory
+    → WritesAlone (effect_frame w.parts t e) w.parts.memory (after_effect w.parts t e).memory
 unfolding after_fault
 effect_within lower w t (Completes h) world below allowed = nothing_changes w.parts.memory
 effect_within lower w t (Stores a n value h) world below allowed =
     stored_within lower w.parts.memory (module_of w.parts.kernel t) a n value world.memory allowed.0 allowed.1
 effect_within lower w t (Calls h) world below allowed = dispatched_within lower w t h world below
-effect_within lower w t (Faults cause) world below allowed = nothing_changes w.parts.memory
+effect_within lower w t (Faults cause) world below allowed =
+    subst (WritesAlone [] w.parts.memory) (sym (lower.halt w.parts.kernel w.parts.memory (module_of w.parts.kernel t))) (nothing_changes w.parts.memory)
 
 pub step_within : Lower → (w : World) (run : Option ℕ) → IsWorld w → w.parts.kernel.ready.run ≡ run
-    → ChangesWithin (step_frame w.parts run) w.parts.memory (stepped_by w.parts run).memory
+    → WritesAlone (step_frame w.parts run) w.parts.memory (stepped_by w.parts run).memory
 step_within lower w None world runs = nothing_changes w.parts.memory
 step_within lower w (Some t) world runs =
-    effect_within lower w t (next_effect w.parts t) world (running_below lower.is_ready lower.is_thread w.parts.kernel t world.kernel runs)
+    effect_within lower w t (next_effect w.parts t) world (running_below lower.is_ready lower.is_thread w.parts.kernel t world.serves.sound runs)
     (executed_allowed (seen (module_of w.parts.kernel t) w.parts.memory) (thread w.parts.kernel t).hart)
 
 -- an interrupt
-unless-memory : (k : Kernel) (g : Memory) (refusal : Option ℕ) (change : Outcome) → change.memory ≡ g → (unless k g refusal change).memory ≡ g
+unless-memory : (k : Kernel) (g : Memory) (refusal : Option ℕ) (change : Outcome) → change.change.memory ≡ g → (unless k g refusal change).change.memory ≡ g
 unless-memory k g None change same = same
 unless-memory k g (Some c) change same = refl
 
-resumption-memory : (k : Kernel) (g : Memory) (t : ℕ) → (resumption k g t).memory ≡ g
+resumption-memory : (k : Kernel) (g : Memory) (t : ℕ) → (resumption k g t).change.memory ≡ g
 unfolding resumption starting
 resumption-memory k g t =
-    cond_both (thread k t).held _ _ (λ (o : Outcome). o.memory ≡ g) (λ held. refl) (λ free. unless-memory k g _ _ refl)
+    cond_both (thread k t).held _ _ (λ (o : Outcome). o.change.memory ≡ g) (λ held. refl) (λ free. unless-memory k g _ _ refl)
 
-found-memory : (k : Kernel) (g : Memory) (o : Option ℕ) → (found k g thread_error o (resumption k g)).memory ≡ g
+found-memory : (k : Kernel) (g : Memory) (o : Option ℕ) → (found k g thread_error o (resumption k g)).change.memory ≡ g
 found-memory k g None = refl
 found-memory k g (Some t) = resumption-memory k g t
 
@@ -128,11 +116,11 @@ acted-memory p Resume target word = found-memory p.kernel p.memory (position (ha
 acted-memory p _ target word = refl
 
 -- every event
-pub event_within : Lower → (w : World) (e : Event) → IsWorld w → ChangesWithin (frame w e) w.parts.memory (after w e).parts.memory
+pub event_within : Lower → (w : World) (e : Event) → IsWorld w → WritesAlone (frame w e) w.parts.memory (after w e).parts.memory
 unfolding stepped
 event_within lower w Step world = step_within lower w w.parts.kernel.ready.run world refl
 event_within lower w (Irq d word) world =
-    subst (ChangesWithin [] w.parts.memory) (sym (acted-memory w.parts (device_of w.board d).action (device_of w.board d).target word))
+    subst (WritesAlone [] w.parts.memory) (sym (acted-memory w.parts (device_of w.board d).action (device_of w.board d).target word))
     (nothing_changes w.parts.memory)
 
 pub frame_law : Lower → FrameLaw

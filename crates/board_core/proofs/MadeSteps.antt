@@ -9,7 +9,8 @@ use Rattle.event_log.specs.declared.entry.Entry.{Entry}
 use Rattle.flat_ram.specs.Laws.{LengthStays}
 use Rattle.kernel_state.specs.Kernel.{thread, module_of}
 use Rattle.kernel_state.specs.Laws.{OneHartChanges, RunningIsReady, ReadyIsThread}
-use Rattle.kernel_state.specs.Sound.{IsSound as IsSoundKernel}
+use Rattle.kernel_state.specs.Serves.{Serves}
+use Rattle.kernel_state.specs.Sound.{IsSound}
 use Rattle.kernel_state.specs.declared.kernel.Kernel.{Kernel}
 use Rattle.kernel_state.specs.declared.thread.Thread.{Thread}
 use Rattle.machine_words.specs.Number.{low_bytes}
@@ -22,7 +23,7 @@ use Rattle.board_core.specs.Bus.{seen}
 use Rattle.board_core.specs.Laws.{ImagesStay, IsWorld, OwnersStay, RegionsStay}
 use Rattle.board_core.specs.Machine.{shown}
 use Rattle.board_core.specs.After.{after}
-use Rattle.board_core.specs.Step.{after_effect, next_effect, ran_on}
+use Rattle.board_core.specs.Step.{after_effect, next_effect, ran_on, with_hart}
 use Rattle.board_core.specs.World.{World}
 use Rattle.board_core.specs.declared.devices.Device.{Device}
 use Rattle.board_core.specs.declared.parts.Parts.{Parts}
@@ -68,7 +69,7 @@ ran w t b = after_run w t b.done b.hart b.memory
 -- an instruction that completes is one step of the written machine
 module _ (laws : Laws) (w : World) (t : ℕ) (world : IsWorld w) (runs : w.parts.kernel.ready.run ≡ Some t) where
   below : t < 256
-  below = running_below laws.is_ready laws.is_thread w.parts.kernel t world.kernel runs
+  below = running_below laws.is_ready laws.is_thread w.parts.kernel t world.serves.sound runs
 
   step_is : (e : Effect) → next_effect w.parts t ≡ e → after w Step ≡ after_step w (after_effect w.parts t e)
   step_is e is = ap (after_step w) (stepped_is w.parts t e runs is)
@@ -80,7 +81,7 @@ module _ (laws : Laws) (w : World) (t : ℕ) (world : IsWorld w) (runs : w.parts
       event_leads laws.images laws.regions laws.owners w (after_run w t 1 h (record w.parts.memory { bytes = bytes })) Step world is
       (record {
         board = world.board;
-        kernel = laws.hart w.parts.kernel t h world.kernel below;
+        serves = record { sound = laws.hart w.parts.kernel t h world.serves.sound below };
         memory = sound_bytes w.parts.memory bytes world.memory size;
         modules = world.modules;
         devices = world.devices;
@@ -88,7 +89,7 @@ module _ (laws : Laws) (w : World) (t : ℕ) (world : IsWorld w) (runs : w.parts
       })
 
 -- and then comes the rest of the burst
-ran_more : (w : World) (t n : ℕ) (h : HartState) (g : Memory) → IsSoundKernel w.parts.kernel → t < 256 → Leads w (Step ∷ []) (after_run w t 1 h g)
+ran_more : (w : World) (t n : ℕ) (h : HartState) (g : Memory) → IsSound w.parts.kernel → t < 256 → Leads w (Step ∷ []) (after_run w t 1 h g)
     → Leads (after_run w t 1 h g) (replicate (burst_of (ran_on w.parts t h g) t n).done Step)
     (ran (after_run w t 1 h g) t (burst_of (ran_on w.parts t h g) t n))
     → Leads w (replicate (1 + (burst (module_of w.parts.kernel t) n h g).done) Step) (ran w t (one_more (burst (module_of w.parts.kernel t) n h g)))
@@ -123,12 +124,12 @@ burst_leads_by : Laws → (w : World) (t n : ℕ) → IsWorld w → w.parts.kern
 burst_leads_by laws w t n world runs (Completes h) is rest =
     let g = w.parts.memory in
     let first = ran_world laws w t world runs h g.bytes refl (step_is laws w t world runs (Completes h) is) in
-    ran_more w t n h g world.kernel (below laws w t world runs) first (rest (after_run w t 1 h g) first.world runs)
+    ran_more w t n h g world.serves.sound (below laws w t world runs) first (rest (after_run w t 1 h g) first.world runs)
 burst_leads_by laws w t n world runs (Stores a i value h) is rest =
     let g = with_number w.parts.memory a i value in
     let size = laws.lengths w.parts.memory.bytes (low_bytes i value) (a - ram_base) in
     let first = ran_world laws w t world runs h g.bytes size (step_is laws w t world runs (Stores a i value h) is) in
-    ran_more w t n h g world.kernel (below laws w t world runs) first (rest (after_run w t 1 h g) first.world runs)
+    ran_more w t n h g world.serves.sound (below laws w t world runs) first (rest (after_run w t 1 h g) first.world runs)
 burst_leads_by laws w t n world runs (Calls h) is rest = stays w t world
 burst_leads_by laws w t n world runs (Faults cause) is rest = stays w t world
 
@@ -144,7 +145,7 @@ idle_once w world idle =
       run = ap (after_step w) (stepped_idle w.parts idle);
       world = record {
         board = world.board;
-        kernel = world.kernel;
+        serves = world.serves;
         memory = world.memory;
         regions = world.regions;
         modules = world.modules;
@@ -171,22 +172,22 @@ after_made w u = record w { parts = u.parts; steps = w.steps + u.steps }
 -- after a burst comes its end, if it has one
 made_leads_by : Laws → (w : World) (t n : ℕ) (b : Burst) (end : Option Effect) → IsWorld w → w.parts.kernel.ready.run ≡ Some t
     → Ends (module_of w.parts.kernel t) n b.done b.hart b.memory end → BurstLeads w t b
-    → IsSoundKernel (made_by w.parts t b end).parts.kernel → IsSoundMemory (made_by w.parts t b end).parts.memory
+    → Serves (made_by w.parts t b end).parts.kernel (made_by w.parts t b end).parts.memory → IsSoundMemory (made_by w.parts t b end).parts.memory
     → Leads w (replicate (made_by w.parts t b end).steps Step) (after_made w (made_by w.parts t b end))
-made_leads_by laws w t n b None world runs ends leads kernel memory = leads
-made_leads_by laws w t n b (Some e) world runs ends leads kernel memory =
+made_leads_by laws w t n b None world runs ends leads serves memory = leads
+made_leads_by laws w t n b (Some e) world runs ends leads serves memory =
     let v = ran w t b in
     let p = after_effect v.parts t e in
     let now = after_made w (made_by w.parts t b (Some e)) in
     let effect : next_effect v.parts t ≡ e =
-    ap (λ (u : Thread). executed (seen u.module b.memory) u.hart) (thread-with_hart w.parts.kernel t b.hart world.kernel (below laws w t world runs))
+    ap (λ (u : Thread). executed (seen u.module b.memory) u.hart) (thread-with_hart w.parts.kernel t b.hart world.serves.sound (below laws w t world runs))
     ∙ ends.1 in
     let is : after v Step ≡ now =
     step_is laws v t leads.world runs e effect ∙ ap (λ s. record w { parts = p; steps = s }) (omega arith) in
     let devices = effect_devices v.parts t e in
     let keeps : Keeps now = record {
       board = world.board;
-      kernel = kernel;
+      serves = serves;
       memory = memory;
       modules = effect_count v.parts t e ∙ world.modules;
       devices = ap (λ (ds : List Device). length ds) devices ∙ world.devices;
@@ -196,13 +197,13 @@ made_leads_by laws w t n b (Some e) world runs ends leads kernel memory =
     (leads_on w v now (replicate b.done Step) (Step ∷ []) leads (event_leads laws.images laws.regions laws.owners v now Step leads.world is keeps))
 
 made_leads_of : Laws → (w : World) (n : ℕ) (run : Option ℕ) → IsWorld w → w.parts.kernel.ready.run ≡ run
-    → IsSoundKernel (made_of n w.parts run).parts.kernel → IsSoundMemory (made_of n w.parts run).parts.memory
+    → Serves (made_of n w.parts run).parts.kernel (made_of n w.parts run).parts.memory → IsSoundMemory (made_of n w.parts run).parts.memory
     → Leads w (replicate (made_of n w.parts run).steps Step) (after_made w (made_of n w.parts run))
-made_leads_of laws w n None world idle kernel memory = idle_leads n w world idle
-made_leads_of laws w n (Some t) world runs kernel memory =
+made_leads_of laws w n None world idle serves memory = idle_leads n w world idle
+made_leads_of laws w n (Some t) world runs serves memory =
     let b = burst_of w.parts t n in
     made_leads_by laws w t n b b.end world runs (burst_ends (module_of w.parts.kernel t) n (thread w.parts.kernel t).hart w.parts.memory)
-    (burst_leads laws t n w world runs) kernel memory
+    (burst_leads laws t n w world runs) serves memory
 
 -- the world after them is the one that is shown by the parts as they were left and the grown history
 made_shown : (b : Board) (p p' : Parts) (h h' : List Entry) (u : Made) (n : ℕ) → n ≡ u.steps → p' ≡ u.parts → step_count h' ≡ step_count h + n
@@ -212,14 +213,14 @@ made_shown b p p' h h' u n made is steps irqs =
     ∙ (ap (λ i. counted b p' i (irq_count h)) (omega (arith, made, steps)) ∙ ap (λ i. counted b p' (step_count h') i) (sym irqs))
 
 pub made_leads : Laws → (b : Board) (p p' : Parts) (h h' : List Entry) (most n : ℕ) → IsWorld (shown b p h) → n ≡ (made most p).steps
-    → p' ≡ (made most p).parts → step_count h' ≡ step_count h + n → irq_count h' ≡ irq_count h → IsSoundKernel p'.kernel → IsSoundMemory p'.memory
+    → p' ≡ (made most p).parts → step_count h' ≡ step_count h + n → irq_count h' ≡ irq_count h → Serves p'.kernel p'.memory → IsSoundMemory p'.memory
     → Leads (shown b p h) (replicate n Step) (shown b p' h')
-made_leads laws b p p' h h' most n world made_n is steps irqs kernel memory =
+made_leads laws b p p' h h' most n world made_n is steps irqs serves memory =
     let w = shown b p h in
     let u = made most p in
     subst (Leads w (replicate n Step)) (made_shown b p p' h h' u n made_n is steps irqs)
     (subst (λ i. Leads w (replicate i Step) (after_made w u)) (sym made_n)
-    (made_leads_of laws w most p.kernel.ready.run world refl (subst (λ (x : Parts). IsSoundKernel x.kernel) is kernel)
+    (made_leads_of laws w most p.kernel.ready.run world refl (subst (λ (x : Parts). Serves x.kernel x.memory) is serves)
     (subst (λ (x : Parts). IsSoundMemory x.memory) is memory)))
 
 -- it is at least one step, and at most as many as were asked for

@@ -19,6 +19,7 @@ use Rattle.module_manager.specs.declared.modules.ModuleState.TheVariants.{Faulte
 use Rattle.object_grants.specs.Slot.{has_name, is_in, is_kind, slot_state_number}
 use Rattle.object_grants.specs.Table.{slot}
 use Rattle.object_grants.specs.declared.slot.SlotState.TheVariants.{Live}
+use Rattle.region_guard.specs.Memory.{Memory}
 use Rattle.rv_core.specs.Execute.{Effect, Completes, Stores, Calls, Faults}
 use Rattle.thread_calls.specs.ThreadRows.{resumption}
 use Rattle.board_core.specs.Action.{acted, device_of, resumed_by_name}
@@ -27,7 +28,7 @@ use Rattle.board_core.specs.Owners.{AreOwned, IsStarted}
 use Rattle.board_core.specs.Step.{after_effect, after_fault, next_effect, stepped, stepped_by, with_hart}
 use Rattle.board_core.specs.declared.parts.Parts.{Parts}
 use Rattle.board_core.specs.World.{World}
-use Rattle.board_core.proofs.OwnedCalls.{Owned, dispatched_owned, found_owned, resumption_owned}
+use Rattle.board_core.proofs.OwnedCalls.{Owned, OwnedAfter, dispatched_owned, found_owned, resumption_owned}
 use Rattle.board_core.proofs.OwnedHalt.{fault_owned}
 use Rattle.board_core.proofs.OwnedSlots.{owned_at}
 use Rattle.board_core.proofs.Running.{running_below, stepped_is, thread-with_hart}
@@ -45,13 +46,13 @@ thread_started ms k t sound owned below is =
     let s = slot k.objects t in
     let live = (and_parts (is_in Live s) (is_kind ThreadKind s) is).0 in
     let used = ap (λ n. n == 0) (eqb-true (slot_state_number s.state) 2 live) in
-    let entry : IsThread k t = subst (IsEntry k t) is (sound.entries t below) in
+    let entry : IsThread k t = subst (IsEntry k t) is (sound.formed.entries t below) in
     subst (IsStarted ms) (sym entry.owner) ((owned_at ms k.objects t owned).owner used)
 
 pub runner_is_started : Lower → RunnerIsStarted
 runner_is_started lower w t world runs =
-    thread_started w.parts.modules w.parts.kernel t world.kernel world.owned (running_below lower.is_ready lower.is_thread w.parts.kernel t world.kernel runs)
-    (lower.is_thread w.parts.kernel t world.kernel (lower.is_ready w.parts.kernel t world.kernel runs))
+    thread_started w.parts.modules w.parts.kernel t world.serves.sound world.owned (running_below lower.is_ready lower.is_thread w.parts.kernel t world.serves.sound runs)
+    (lower.is_thread w.parts.kernel t world.serves.sound (lower.is_ready w.parts.kernel t world.serves.sound runs))
 
 -- a step
 abbrev OwnedParts : Parts → Type 0
@@ -62,13 +63,13 @@ unfolding after_fault
 effect_owned lower w t (Completes h) world runs = world.owned
 effect_owned lower w t (Stores a n value h) world runs = world.owned
 effect_owned lower w t (Calls h) world runs =
-    let below = running_below lower.is_ready lower.is_thread w.parts.kernel t world.kernel runs in
+    let below = running_below lower.is_ready lower.is_thread w.parts.kernel t world.serves.sound runs in
     let same : module_of (with_hart w.parts.kernel t h) t ≡ module_of w.parts.kernel t =
-    ap (λ (u : Thread). u.module) (thread-with_hart w.parts.kernel t h world.kernel below) in
+    ap (λ (u : Thread). u.module) (thread-with_hart w.parts.kernel t h world.serves.sound below) in
     dispatched_owned w.parts.modules (with_hart w.parts.kernel t h) w.parts.memory t world.owned
     (subst (IsStarted w.parts.modules) (sym same) (runner_is_started lower w t world runs))
 effect_owned lower w t (Faults cause) world runs =
-    fault_owned lower.no_slots lower.no_grants w.parts.modules w.parts.kernel (module_of w.parts.kernel t) _ world.kernel world.owned
+    fault_owned lower.no_slots lower.no_grants w.parts.modules w.parts.kernel w.parts.memory (module_of w.parts.kernel t) _ world.serves.sound world.owned
 
 step_owned : Lower → (w : World) (run : Option ℕ) → IsWorld w → w.parts.kernel.ready.run ≡ run → OwnedParts (stepped_by w.parts run)
 step_owned lower w None world runs = world.owned

@@ -1,5 +1,5 @@
 -- A call leaves used slots with started modules.
-use Rattle.std.proofs.Common.{◌≡◌, ℕ, ◌==◌, ◌&&◌, ◌||◌, Bool, true, false, not, nat_le, nat_lt, List, Option, None, Some, Result, Ok, Err, position, refl, ap, subst}
+use Rattle.std.proofs.Common.{◌≡◌, ℕ, ◌==◌, ◌&&◌, ◌||◌, Bool, true, false, not, nat_le, nat_lt, List, [], ◌∷◌, find, Option, None, Some, Result, Ok, Err, position, refl, ap, subst}
 use Rattle.std.proofs.lemmas.Bool.{and_parts, cond_both, eqb-true}
 use Rattle.tx_types.specs.Code.{delete_error, feature_not_enabled, option_error, no_instance, no_memory, priority_error, thread_error, thresh_error}
 use Rattle.tx_types.specs.Kind.{kind_of}
@@ -16,22 +16,22 @@ use Rattle.object_grants.specs.declared.slot.Slot.{Slot}
 use Rattle.object_grants.specs.declared.slot.SlotState.TheVariants.{Free, Empty, Live}
 use Rattle.region_guard.specs.Memory.{Memory}
 use Rattle.region_guard.specs.declared.region.Access.TheVariants.{Load, Store}
-use Rattle.kernel_state.specs.Kernel.{thread, module_of, removed}
+use Rattle.kernel_state.specs.Change.{Change, quiet}
+use Rattle.kernel_state.specs.Kernel.{thread, module_of, removed_thread}
 use Rattle.kernel_state.specs.Outcome.{Outcome, done, found, given, refused, unless}
+use Rattle.kernel_state.specs.Registers.{arg, arguments, number_asked}
 use Rattle.kernel_state.specs.Tests.{caller_refusal, named, owner_refusal, reserved}
 use Rattle.kernel_state.specs.Thread.{is_over, is_state, is_waiting}
 use Rattle.kernel_state.specs.declared.answer.Answer.{Answer}
 use Rattle.kernel_state.specs.declared.answer.Answer.TheVariants.{Code, Value, Waits, Ended}
 use Rattle.kernel_state.specs.declared.kernel.Kernel.{Kernel}
-use Rattle.thread_calls.specs.Changes.{ended, suspended}
+use Rattle.kernel_state.specs.ThreadChanges.{ended, started, suspended}
 use Rattle.thread_calls.specs.Create.{block_at, block_refusal, created}
 use Rattle.thread_calls.specs.ObjectRows.{allocation, granting, object_allocate_row, object_deallocate_row, object_pointer_get_row}
-use Rattle.thread_calls.specs.ThreadRows.{arg, creation, priority_change, resumption, slice_change, starting, threshold_change, thread_create_row, thread_delete_row, thread_terminate_row, thread_suspend_row, thread_resume_row, thread_relinquish_row, thread_identify_row, thread_info_get_row, thread_preemption_change_row, thread_priority_change_row, thread_time_slice_change_row, thread_reset_row, thread_complete_row}
-use Rattle.call_dispatch.specs.Ecall.{arguments, dispatched, number_asked, with_answer}
-use Rattle.call_dispatch.specs.Rows.{call_row, served}
-use Rattle.call_dispatch.specs.Service.{service_of}
-use Rattle.call_dispatch.specs.declared.service.Service.{Service}
-use Rattle.call_dispatch.specs.declared.service.Service.TheVariants.{ObjectAllocate, ObjectDeallocate, ObjectPointerGet, ThreadCreate, ThreadDelete, ThreadTerminate, ThreadSuspend, ThreadResume, ThreadRelinquish, ThreadIdentify, ThreadInfoGet, ThreadPreemptionChange, ThreadPriorityChange, ThreadTimeSliceChange, ThreadReset, ThreadComplete}
+use Rattle.thread_calls.specs.ThreadRows.{creation, priority_change, resumption, slice_change, starting, threshold_change, thread_create_row, thread_delete_row, thread_terminate_row, thread_suspend_row, thread_resume_row, thread_relinquish_row, thread_identify_row, thread_info_get_row, thread_preemption_change_row, thread_priority_change_row, thread_time_slice_change_row, thread_reset_row, thread_complete_row}
+use Rattle.call_dispatch.specs.Ecall.{dispatched, with_answer}
+use Rattle.kernel_state.specs.Row.{Row, row_of}
+use Rattle.call_dispatch.specs.Rows.{call_row, row_asked, rows}
 use Rattle.board_core.specs.Owners.{AreOwned, IsStarted}
 use Rattle.board_core.proofs.OwnedSlots.{allocated_owned, deallocated_owned, emptied_owned, granted_owned, live_owned}
 
@@ -39,7 +39,7 @@ abbrev pub Owned : List Module → Kernel → Type 0
 Owned ms k = AreOwned ms k.objects
 
 abbrev pub OwnedAfter : List Module → Outcome → Type 0
-OwnedAfter ms o = Owned ms o.kernel
+OwnedAfter ms o = Owned ms o.change.kernel
 
 -- the parts of a row
 unless_owned : (ms : List Module) (k : Kernel) (g : Memory) (r : Option ℕ) (change : Outcome) → Owned ms k → OwnedAfter ms change
@@ -82,13 +82,16 @@ reserved_used slots r m kind o is =
     ap (λ n. n == 0) (eqb-true (slot_state_number s.state) 1 empty)
 
 -- changes of threads alone
-suspended_owned : (ms : List Module) (k : Kernel) (t : ℕ) → Owned ms k → Owned ms (suspended k t)
-suspended_owned ms k t before =
+abbrev pub OwnedChange : List Module → Change → Type 0
+OwnedChange ms c = Owned ms c.kernel
+
+suspended_owned : (ms : List Module) (k : Kernel) (g : Memory) (t : ℕ) → Owned ms k → OwnedChange ms (suspended k g t)
+suspended_owned ms k g t before =
     cond_both (is_state (thread k t).state Ready) _ _ (Owned ms) (λ _. before)
     (λ _. cond_both (is_waiting (thread k t).state) _ k (Owned ms) (λ _. before) (λ _. before))
 
-pub ended_owned : (ms : List Module) (k : Kernel) (t : ℕ) (state : State) → Owned ms k → Owned ms (ended k t state)
-ended_owned ms k t state before = cond_both (is_over (thread k t).state) k _ (Owned ms) (λ _. before) (λ _. before)
+pub ended_owned : (ms : List Module) (k : Kernel) (g : Memory) (t : ℕ) (state : State) → Owned ms k → OwnedChange ms (ended k g t state)
+ended_owned ms k g t state before = cond_both (is_over (thread k t).state) k _ (Owned ms) (λ _. before) (λ _. before)
 
 pub resumption_owned : (ms : List Module) (k : Kernel) (g : Memory) (t : ℕ) → Owned ms k → OwnedAfter ms (resumption k g t)
 unfolding resumption starting
@@ -122,11 +125,11 @@ module _ (ms : List Module) (k : Kernel) (g : Memory) (by : ℕ) (a : List ℕ) 
       (found_owned ms k g no_instance (position (has_name kind name) k.objects) _ before
       (λ o _. granted_owned ms k.objects (module_of k by) o before started))))
 
-  created_owned : (o : ℕ) (name : List ℕ) → is_in Free (slot k.objects o) ≡ false → Owned ms (created k by o name (block_at g (arg a 2)))
+  created_owned : (o : ℕ) (name : List ℕ) → is_in Free (slot k.objects o) ≡ false → OwnedChange ms (created k g by o name (block_at g (arg a 2)))
   unfolding created
   created_owned o name used =
       let now = live_owned ms k.objects o name before used in
-      cond_both ((block_at g (arg a 2)).auto == 1) _ _ (Owned ms) (λ _. now) (λ _. now)
+      cond_both ((block_at g (arg a 2)).auto == 1) _ _ (OwnedChange ms) (λ _. now) (λ _. now)
 
   thread_create_owned : OwnedAfter ms (thread_create_row k g by a)
   unfolding thread_create_row creation
@@ -134,7 +137,7 @@ module _ (ms : List Module) (k : Kernel) (g : Memory) (by : ℕ) (a : List ℕ) 
       found_owned ms k g thread_error (reserved k by (arg a 0) Thread) _ before (λ o is.
       given_owned ms k g (name_at g (module_of k by) (arg a 1)) _ before (λ name.
       unless_owned ms k g (caller_refusal k g by Load (arg a 2) 32) _ before
-      (unless_owned ms k g (block_refusal k g by (block_at g (arg a 2))) (done (created k by o name (block_at g (arg a 2))) g) before
+      (unless_owned ms k g (block_refusal k g by (block_at g (arg a 2))) (done (created k g by o name (block_at g (arg a 2)))) before
       (created_owned o name (reserved_used k.objects (arg a 0) (module_of k by) Thread o is)))))
 
   thread_delete_owned : OwnedAfter ms (thread_delete_row k g by a)
@@ -142,16 +145,16 @@ module _ (ms : List Module) (k : Kernel) (g : Memory) (by : ℕ) (a : List ℕ) 
   thread_delete_owned =
       found_owned ms k g thread_error (named k by (arg a 0) Thread) _ before (λ t is.
       unless_owned ms k g (owner_refusal k by t) _ before
-      (unless_owned ms k g (refused (not (is_over (thread k t).state)) delete_error) (done (removed k t) g) before
+      (unless_owned ms k g (refused (not (is_over (thread k t).state)) delete_error) (done (quiet (removed_thread k t) g)) before
       (emptied_owned ms k.objects t before (live_used k.objects (arg a 0) (module_of k by) Thread t is))))
 
   thread_terminate_owned : OwnedAfter ms (thread_terminate_row k g by a)
   unfolding thread_terminate_row
-  thread_terminate_owned = thread_found_owned _ (λ t. ended_owned ms k t Terminated before)
+  thread_terminate_owned = thread_found_owned _ (λ t. ended_owned ms k g t Terminated before)
 
   thread_suspend_owned : OwnedAfter ms (thread_suspend_row k g by a)
   unfolding thread_suspend_row
-  thread_suspend_owned = thread_found_owned _ (λ t. unless_owned ms k g _ _ before (suspended_owned ms k t before))
+  thread_suspend_owned = thread_found_owned _ (λ t. unless_owned ms k g _ _ before (suspended_owned ms k g t before))
 
   thread_resume_owned : OwnedAfter ms (thread_resume_row k g by a)
   unfolding thread_resume_row
@@ -193,30 +196,35 @@ module _ (ms : List Module) (k : Kernel) (g : Memory) (by : ℕ) (a : List ℕ) 
 
   thread_complete_owned : OwnedAfter ms (thread_complete_row k g by a)
   unfolding thread_complete_row
-  thread_complete_owned = ended_owned ms k by Completed before
+  thread_complete_owned = ended_owned ms k g by Completed before
 
-  served_owned : (s : Service) → IsStarted ms (module_of k by) → OwnedAfter ms (served s k g by a)
-  unfolding served
-  served_owned ObjectAllocate started = object_allocate_owned started
-  served_owned ObjectDeallocate started = object_deallocate_owned
-  served_owned ObjectPointerGet started = object_pointer_get_owned started
-  served_owned ThreadCreate started = thread_create_owned
-  served_owned ThreadDelete started = thread_delete_owned
-  served_owned ThreadTerminate started = thread_terminate_owned
-  served_owned ThreadSuspend started = thread_suspend_owned
-  served_owned ThreadResume started = thread_resume_owned
-  served_owned ThreadRelinquish started = thread_relinquish_owned
-  served_owned ThreadIdentify started = thread_identify_owned
-  served_owned ThreadInfoGet started = thread_info_get_owned
-  served_owned ThreadPreemptionChange started = thread_preemption_change_owned
-  served_owned ThreadPriorityChange started = thread_priority_change_owned
-  served_owned ThreadTimeSliceChange started = thread_time_slice_change_owned
-  served_owned ThreadReset started = thread_reset_owned
-  served_owned ThreadComplete started = thread_complete_owned
+-- each row leaves used slots with started modules
+abbrev IsOwnedRow : List Module → Row → Type 0
+IsOwnedRow ms r =
+    (k : Kernel) (g : Memory) (by : ℕ) (a : List ℕ) → Owned ms k → IsStarted ms (module_of k by) → OwnedAfter ms (r.does k g by a)
 
-  call_owned : (n : ℕ) → IsStarted ms (module_of k by) → OwnedAfter ms (call_row n k g by a)
-  unfolding call_row
-  call_owned n started = found_owned ms k g feature_not_enabled (service_of n) _ before (λ s _. served_owned s started)
+abbrev EachOf : (Row → Type 0) → List Row → Type 0
+EachOf P [] = Unit {0}
+EachOf P (r ∷ rs) = P r × EachOf P rs
+
+each_row_is_owned : (ms : List Module) → EachOf (IsOwnedRow ms) rows
+each_row_is_owned ms =
+    ((λ k g by a before started. object_allocate_owned ms k g by a before started), ((λ k g by a before started. object_deallocate_owned ms k g by a before), ((λ k g by a before started. object_pointer_get_owned ms k g by a before started), ((λ k g by a before started. thread_create_owned ms k g by a before), ((λ k g by a before started. thread_delete_owned ms k g by a before), ((λ k g by a before started. thread_terminate_owned ms k g by a before), ((λ k g by a before started. thread_suspend_owned ms k g by a before), ((λ k g by a before started. thread_resume_owned ms k g by a before), ((λ k g by a before started. thread_relinquish_owned ms k g by a before), ((λ k g by a before started. thread_identify_owned ms k g by a before), ((λ k g by a before started. thread_info_get_owned ms k g by a before), ((λ k g by a before started. thread_preemption_change_owned ms k g by a before), ((λ k g by a before started. thread_priority_change_owned ms k g by a before), ((λ k g by a before started. thread_time_slice_change_owned ms k g by a before), ((λ k g by a before started. thread_reset_owned ms k g by a before), ((λ k g by a before started. thread_complete_owned ms k g by a before), tt))))))))))))))))
+
+found_row : (P : Row → Type 0) (test : Row → Bool) (rs : List Row) (r : Row) → EachOf P rs → find test rs ≡ Some r → P r
+found_row P test [] r each found = cc
+found_row P test (x ∷ rs) r each found =
+    cond_both (test x) (Some x) (find test rs) (λ (o : Option Row). o ≡ Some r → P r)
+    (λ yes same. let is_x : x ≡ r = cc in subst P is_x each.0)
+    (λ no later. found_row P test rs r each.1 later)
+    found
+
+call_owned : (ms : List Module) (k : Kernel) (g : Memory) (by : ℕ) (a : List ℕ) (n : ℕ) → Owned ms k → IsStarted ms (module_of k by)
+    → OwnedAfter ms (call_row n k g by a)
+unfolding call_row row_asked
+call_owned ms k g by a n before started =
+    found_owned ms k g feature_not_enabled (row_of n rows) _ before
+    (λ r is. found_row (IsOwnedRow ms) (λ x. x.number == n) rows r (each_row_is_owned ms) is k g by a before started)
 
 -- the answer changes the caller's registers alone
 answer_owned : (ms : List Module) (k : Kernel) (t : ℕ) (answer : Answer) → Owned ms k → Owned ms (with_answer k t answer)
@@ -230,4 +238,4 @@ pub dispatched_owned : (ms : List Module) (k : Kernel) (g : Memory) (t : ℕ) �
 unfolding dispatched
 dispatched_owned ms k g t before started =
     let h = (thread k t).hart in
-    answer_owned ms _ t _ (call_owned ms k g t (arguments h) before (number_asked h) started)
+    answer_owned ms _ t _ (call_owned ms k g t (arguments h) (number_asked h) before started)

@@ -14,7 +14,7 @@ use Rattle.kernel_state.specs.declared.kernel.Kernel.{Kernel}
 use Rattle.kernel_state.specs.declared.thread.ThreadSpec.{ThreadSpec}
 use Rattle.kernel_state.specs.Kernel.{blank_kernel}
 use Rattle.module_manager.specs.Modules.{may_start, module_at, with_state}
-use Rattle.module_manager.specs.Start.{StartOutcome, begun, begun_alone, begun_both, callback_name, callback_spec, can_start, in_new_slot, next_slot, slots_needed, start_name, start_row, start_spec, usable_slots}
+use Rattle.module_manager.specs.Start.{StartOutcome, begun, begun_alone, begun_both, callback_name, callback_spec, can_start, in_new_slot, next_slot, slots_needed, start_name, start_row, start_spec, usable_slots, zeroed}
 use Rattle.module_manager.specs.declared.modules.Module.{Module}
 use Rattle.module_manager.specs.declared.modules.ModuleState.TheVariants.{Started}
 use Rattle.module_preamble.specs.Words.{has_callback}
@@ -85,24 +85,24 @@ another_usable k name s two =
     subst (λ (slots : List Slot). 1 ≤ length (filter is_usable slots)) (sym stays) (omega (arith, second, two))
 
 -- a start
-alone_owned : (ms : List Module) (k : Kernel) (m : ℕ) (r : Module) → 1 ≤ usable_slots k → Owned ms k → IsStarted ms m → Owned ms (begun_alone k m r)
+alone_owned : (ms : List Module) (k : Kernel) (g : Memory) (m : ℕ) (r : Module) → 1 ≤ usable_slots k → Owned ms k → IsStarted ms m → Owned ms (begun_alone k g m r).kernel
 unfolding begun_alone
-alone_owned ms k m r some before started = placed_owned ms k start_name (start_spec m r) some before started
+alone_owned ms k g m r some before started = placed_owned ms k start_name (start_spec m r) some before started
 
-both_owned : (ms : List Module) (k : Kernel) (m : ℕ) (r : Module) → 2 ≤ usable_slots k → Owned ms k → IsStarted ms m → Owned ms (begun_both k m r)
+both_owned : (ms : List Module) (k : Kernel) (g : Memory) (m : ℕ) (r : Module) → 2 ≤ usable_slots k → Owned ms k → IsStarted ms m → Owned ms (begun_both k g m r).kernel
 unfolding begun_both
-both_owned ms k m r two before started =
+both_owned ms k g m r two before started =
     let one = in_new_slot k start_name (start_spec m r) in
     placed_owned ms one callback_name (callback_spec m r) (another_usable k start_name (start_spec m r) two)
     (placed_owned ms k start_name (start_spec m r) (omega arith) before started) started
 
-begun_owned : (ms : List Module) (k : Kernel) (m : ℕ) (r : Module) → slots_needed r.preamble ≤ usable_slots k → Owned ms k → IsStarted ms m
-    → Owned ms (begun k m r)
-begun_owned ms k m r =
+begun_owned : (ms : List Module) (k : Kernel) (g : Memory) (m : ℕ) (r : Module) → slots_needed r.preamble ≤ usable_slots k → Owned ms k
+    → IsStarted ms m → Owned ms (begun k g m r).kernel
+begun_owned ms k g m r =
     elim (has_callback r.preamble) as
-    (λ b. cond b 2 1 ≤ usable_slots k → Owned ms k → IsStarted ms m → Owned ms (cond b (begun_both k m r) (begun_alone k m r))) [
-      | true ↦ both_owned ms k m r
-      | false ↦ alone_owned ms k m r
+    (λ b. cond b 2 1 ≤ usable_slots k → Owned ms k → IsStarted ms m → Owned ms (cond b (begun_both k g m r) (begun_alone k g m r)).kernel) [
+      | true ↦ both_owned ms k g m r
+      | false ↦ alone_owned ms k g m r
     ]
 
 now_started : (ms : List Module) (m : ℕ) → m < length ms → IsStarted (with_state ms m Started) m
@@ -119,16 +119,16 @@ abbrev OwnedParts : Parts → Type 0
 OwnedParts p = AreOwned p.modules p.kernel.objects
 
 start_owned : (ms : List Module) (k : Kernel) (g : Memory) (m : ℕ) → m < length ms → Owned ms k
-    → AreOwned (start_row ms k g m).modules (start_row ms k g m).kernel.objects
+    → AreOwned (start_row ms k g m).modules (start_row ms k g m).change.kernel.objects
 unfolding start_row
 start_owned ms k g m inside before =
     let r = module_at ms m in
     let now = with_state ms m Started in
-    cond_both (can_start k r) _ _ (λ (o : StartOutcome). AreOwned o.modules o.kernel.objects)
+    cond_both (can_start k r) _ _ (λ (o : StartOutcome). AreOwned o.modules o.change.kernel.objects)
     (λ can.
     let enough =
     leb-true (slots_needed r.preamble) (usable_slots k) (and_parts (may_start r.state) (nat_le (slots_needed r.preamble) (usable_slots k)) can).1 in
-    begun_owned now k m r enough
+    begun_owned now k (zeroed g r) m r enough
     (All-weaker (IsOwned ms) (IsOwned now) (λ (s : Slot) (own : IsOwned ms s). record {
       owner = λ used. started_more ms m s.owner inside (own.owner used);
       grants = λ j granted. started_more ms m j inside (own.grants j granted);

@@ -92,12 +92,12 @@ pub report_is_printable : (w : World) → IsWorld w → All (λ n. n < 256) w.pa
     → All (λ (t : ThreadRow). length t.regs ≡ 31) (rows_found (length w.parts.kernel.objects) (thread_row w.parts.kernel)) → IsPrintable (report_of w)
 unfolding report_of
 report_is_printable w world small regs = record {
-  held = held_numbers w.parts.kernel.ready world.kernel.scheduler small;
-  ready = ready_numbers w.parts.kernel.ready world.kernel.scheduler;
+  held = held_numbers w.parts.kernel.ready world.serves.sound.formed.scheduler small;
+  ready = ready_numbers w.parts.kernel.ready world.serves.sound.formed.scheduler;
   modules = omega (arith, length-rows_below (length w.parts.modules) (module_row w.board w.parts.modules), world.modules, world.board.modules);
-  threads = omega (arith, length-rows_found (length w.parts.kernel.objects) (thread_row w.parts.kernel), world.kernel.slots);
+  threads = omega (arith, length-rows_found (length w.parts.kernel.objects) (thread_row w.parts.kernel), world.serves.sound.formed.slots);
   regs = regs;
-  objects = omega (arith, length-rows_found (length w.parts.kernel.objects) (object_row w.parts.kernel), world.kernel.slots);
+  objects = omega (arith, length-rows_found (length w.parts.kernel.objects) (object_row w.parts.kernel), world.serves.sound.formed.slots);
   waits = All-rows_found (λ (r : ObjectRow). IsNumbers r.waits) (length w.parts.kernel.objects) (object_row w.parts.kernel) (object_waits w.parts.kernel);
   devices = omega (arith, length-rows_below (length w.parts.devices) (device_row w.board w.parts.devices), world.devices, world.board.devices);
   shows = omega (arith, length-rows_below (length w.board.shows) (show_row w.board w.parts.memory w.parts.modules), world.board.shows);

@@ -18,7 +18,7 @@ thread_below : (k : Kernel) (t : ℕ) → IsSound k → is_thread k t ≡ true �
 thread_below k t sound is =
     ⊎_elim (λ below. below)
     (λ (past : 256 ≤ t).
-    let none = get_or_past k.objects t (free_slot 0) (omega (arith, sound.slots)) in
+    let none = get_or_past k.objects t (free_slot 0) (omega (arith, sound.formed.slots)) in
     absurd (false≢true (sym (ap has_thread none) ∙ is)))
     (cases_lt t 256)
 
@@ -27,7 +27,7 @@ running_below is_ready is_thread k t sound runs = thread_below k t sound (is_thr
 
 -- the thread whose registers are set
 pub thread-with_hart : (k : Kernel) (t : ℕ) (h : HartState) → IsSound k → t < 256 → thread (with_hart k t h) t ≡ record (thread k t) { hart = h }
-thread-with_hart k t h sound below = get_or-set_same k.threads t (record (thread k t) { hart = h }) blank_thread (omega (arith, sound.threads))
+thread-with_hart k t h sound below = get_or-set_same k.threads t (record (thread k t) { hart = h }) blank_thread (omega (arith, sound.formed.threads))
 
 -- the step of a thread that runs, by its effect
 pub stepped_is : (p : Parts) (t : ℕ) (e : Effect) → p.kernel.ready.run ≡ Some t → next_effect p t ≡ e → stepped p ≡ after_effect p t e

@@ -2,7 +2,7 @@
 use Rattle.std.proofs.Common.{◌≡◌, ◌≢◌, ◌⊎◌, ℕ, ◌+◌, ◌<◌, ◌≤◌, ◌==◌, ◌&&◌, Bool, true, false, nat_le, nat_lt, List, [], ◌∷◌, length, Option, None, Some, All, refl, sym, ap, ◌∙◌, subst, ⊎_elim, inl, inr, get_or, option_and_then, arith}
 use Rattle.std.proofs.lemmas.Bool.{and_cases, and_from, and_parts, cases_lt, cases_order, cond_both, eqb-true, false≢true, leb-true, ltb-false, or_cases}
 use Rattle.std.proofs.lemmas.List.{get_or_default}
-use Rattle.std.proofs.lemmas.List.Elements.{All-cons, All-nil}
+use Rattle.std.proofs.lemmas.List.Elements.{All-cons, All-nil, filter_passes}
 use Rattle.std.proofs.lemmas.List.Folds.{Any-from_list_any}
 use Rattle.std.proofs.lemmas.Nat.Bits.{bit_at-pow_other}
 use Rattle.std.specs.List.{Contains, list_any}
@@ -19,14 +19,14 @@ use Rattle.kernel_state.specs.Kernel.{thread, is_thread, module_of}
 use Rattle.kernel_state.specs.Laws.{RunningIsReady, ReadyIsThread}
 use Rattle.kernel_state.specs.Thread.{is_over}
 use Rattle.kernel_state.specs.declared.thread.Thread.{Thread}
-use Rattle.call_dispatch.specs.Ecall.{arguments, number_asked}
-use Rattle.call_dispatch.specs.Results.{Range, if_allowed, result_range}
-use Rattle.call_dispatch.specs.Service.{service_of}
+use Rattle.kernel_state.specs.Registers.{arguments, number_asked}
+use Rattle.kernel_state.specs.Range.{IsOutsideAll, Range}
+use Rattle.call_dispatch.specs.Rows.{row_asked, row_writes}
 use Rattle.module_manager.specs.Laws.{HaltSparesThreads}
 use Rattle.module_manager.specs.Modules.{module_at}
 use Rattle.board_core.specs.Boot.{code_region, data_region}
 use Rattle.board_core.specs.Bus.{seen}
-use Rattle.board_core.specs.Frame.{IsOutsideAll, effect_frame, frame, if_any, step_frame}
+use Rattle.board_core.specs.Frame.{effect_frame, frame, step_frame}
 use Rattle.board_core.specs.Laws.{CodeIsInNoFrame, DataIsItsModules, FaultKeepsBytes, FaultSparesOthers, IsDataOf, IsFaulting, IsWorld, Writes}
 use Rattle.board_core.specs.After.{after}
 use Rattle.board_core.specs.Step.{after_effect, stepped, stepped_by, after_fault, next_effect, with_hart}
@@ -104,18 +104,15 @@ none_stored g m = All-nil (λ (r : Range). may g m Store r.base r.size ≡ true)
 one_stored : (g : Memory) (m : ℕ) (r : Range) → may g m Store r.base r.size ≡ true → MayStore g m (r ∷ [])
 one_stored g m r allowed = All-cons (λ (s : Range). may g m Store s.base s.size ≡ true) r [] allowed (none_stored g m)
 
-result_stored : (g : Memory) (m : ℕ) (r : Option Range) → MayStore g m (if_any (if_allowed g m r))
-result_stored g m None = none_stored g m
-result_stored g m (Some r) =
-    cond_both (may g m Store r.base r.size) (Some r) None (λ (o : Option Range). MayStore g m (if_any o)) (λ yes. one_stored g m r yes) (λ no. none_stored g m)
-
 call_stored : (w : World) (t : ℕ) (h : HartState) → IsWorld w → t < 256
     → MayStore w.parts.memory (module_of w.parts.kernel t) (effect_frame w.parts t (Calls h))
 call_stored w t h world below =
     let k = with_hart w.parts.kernel t h in
-    let same : module_of k t ≡ module_of w.parts.kernel t = ap (λ (u : Thread). u.module) (thread-with_hart w.parts.kernel t h world.kernel below) in
-    subst (λ m. MayStore w.parts.memory m (effect_frame w.parts t (Calls h))) same
-    (result_stored w.parts.memory (module_of k t) (option_and_then (λ s. result_range s (arguments h)) (service_of (number_asked h))))
+    let g = w.parts.memory in
+    let m = module_of k t in
+    let same : m ≡ module_of w.parts.kernel t = ap (λ (u : Thread). u.module) (thread-with_hart w.parts.kernel t h world.serves.sound below) in
+    subst (λ m. MayStore g m (effect_frame w.parts t (Calls h))) same
+    (filter_passes (λ r. may g m Store r.base r.size) (row_writes (row_asked (number_asked h)) k t (arguments h)))
 
 effect_stored : (w : World) (t : ℕ) (e : Effect) → IsWorld w → t < 256 → IsAllowed (seen (module_of w.parts.kernel t) w.parts.memory) e
     → MayStore w.parts.memory (module_of w.parts.kernel t) (effect_frame w.parts t e)
@@ -131,7 +128,7 @@ step_spares : RunningIsReady → ReadyIsThread → (w : World) (run : Option ℕ
 step_spares is_ready is_thread w None r x world runs stands no_store from to = All-nil (λ (s : Range). IsOutside s.base s.size x)
 step_spares is_ready is_thread w (Some t) r x world runs stands no_store from to =
     let m = module_of w.parts.kernel t in
-    let below = running_below is_ready is_thread w.parts.kernel t world.kernel runs in
+    let below = running_below is_ready is_thread w.parts.kernel t world.serves.sound runs in
     let stored = effect_stored w t (next_effect w.parts t) world below (executed_allowed (seen m w.parts.memory) (thread w.parts.kernel t).hart) in
     λ k d within. region_is_outside w.parts.memory m _ _ x r world.memory (stored k d within) stands (no_store t refl) from to
 
@@ -171,19 +168,20 @@ others_data_is_in_no_frame is_ready is_thread w t m x world runs other own =
     own.1 own.2
 
 -- what changes a byte is a store or a call
-writes_by : (p : Parts) (t x : ℕ) (e : Effect) → byte (after_effect p t e).memory x ≢ byte p.memory x → Writes e
+writes_by : Lower → (p : Parts) (t x : ℕ) (e : Effect) → byte (after_effect p t e).memory x ≢ byte p.memory x → Writes e
 unfolding after_fault
-writes_by p t x (Completes h) changed = absurd (changed refl)
-writes_by p t x (Stores a n value h) changed = tt
-writes_by p t x (Calls h) changed = tt
-writes_by p t x (Faults cause) changed = absurd (changed refl)
+writes_by lower p t x (Completes h) changed = absurd (changed refl)
+writes_by lower p t x (Stores a n value h) changed = tt
+writes_by lower p t x (Calls h) changed = tt
+writes_by lower p t x (Faults cause) changed =
+    absurd (changed (ap (λ (g : Memory). byte g x) (lower.halt p.kernel p.memory (module_of p.kernel t))))
 
 step_writes : Lower → (w : World) (m x : ℕ) (run : Option ℕ) → IsWorld w → w.parts.kernel.ready.run ≡ run → IsDataOf w m x
     → byte (stepped_by w.parts run).memory x ≢ byte w.parts.memory x
     → (t : ℕ) × (run ≡ Some t) × (module_of w.parts.kernel t ≡ m) × Writes (next_effect w.parts t)
 step_writes lower w m x None world runs own changed = absurd (changed refl)
 step_writes lower w m x (Some t) world runs own changed =
-    ⊎_elim (λ (same : module_of w.parts.kernel t ≡ m). (t, refl, same, writes_by w.parts t x (next_effect w.parts t) changed))
+    ⊎_elim (λ (same : module_of w.parts.kernel t ≡ m). (t, refl, same, writes_by lower w.parts t x (next_effect w.parts t) changed))
     (λ other.
     let outside = others_data_is_in_no_frame lower.is_ready lower.is_thread w t m x world runs other own in
     let frame_is : IsOutsideAll (step_frame w.parts (Some t)) x = subst (λ run. IsOutsideAll (step_frame w.parts run) x) runs outside in
@@ -196,20 +194,17 @@ data_is_its_modules lower w Step m x world own changed = step_writes lower w m x
 data_is_its_modules lower w (Irq d word) m x world own changed =
     absurd (changed ((event_within lower w (Irq d word) world).bytes x (All-nil (λ (r : Range). IsOutside r.base r.size x))))
 
--- a fault leaves each thread of another module as it is
-others_stay : HaltSparesThreads → (w : World) (t u : ℕ) (cause : Cause) → IsWorld w → IsFaulting w t cause
-    → is_thread w.parts.kernel u ≡ true → module_of w.parts.kernel u ≢ module_of w.parts.kernel t
-    → (is_thread (after w Step).parts.kernel u ≡ true) × (thread (after w Step).parts.kernel u ≡ thread w.parts.kernel u)
-unfolding after_fault
-others_stay spares w t u cause world faults is other =
-    subst (λ (p : Parts). (is_thread p.kernel u ≡ true) × (thread p.kernel u ≡ thread w.parts.kernel u))
-    (sym (stepped_is w.parts t (Faults cause) faults.0 faults.1))
-    (spares w.parts.kernel (module_of w.parts.kernel t) u world.kernel is other)
-
+-- a fault
 pub fault_spares_others : HaltSparesThreads → FaultSparesOthers
-fault_spares_others spares w t u cause world faults is other =
-    let kept = others_stay spares w t u cause world faults is other in (kept.0, ap (λ (v : Thread). is_over v.state) kept.1)
-
-pub fault_keeps_bytes : FaultKeepsBytes
 unfolding after_fault
-fault_keeps_bytes w t cause faults = ap (λ (p : Parts). p.memory) (stepped_is w.parts t (Faults cause) faults.0 faults.1)
+fault_spares_others spares w t u cause world faults is other =
+    let k = w.parts.kernel in
+    let kept = spares k w.parts.memory (module_of k t) u world.serves.sound is other in
+    subst (λ (p : Parts). (is_thread p.kernel u ≡ true) × (is_over (thread p.kernel u).state ≡ is_over (thread k u).state))
+    (sym (stepped_is w.parts t (Faults cause) faults.0 faults.1)) (kept.0, kept.2)
+
+pub fault_keeps_bytes : Lower → FaultKeepsBytes
+unfolding after_fault
+fault_keeps_bytes lower w t cause faults =
+    ap (λ (p : Parts). p.memory) (stepped_is w.parts t (Faults cause) faults.0 faults.1)
+    ∙ lower.halt w.parts.kernel w.parts.memory (module_of w.parts.kernel t)

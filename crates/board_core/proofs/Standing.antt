@@ -10,7 +10,7 @@ use Rattle.board_file.specs.Rules.{IsBoard}
 use Rattle.event_log.specs.Events.{Event, Irq, events_of}
 use Rattle.event_log.specs.Log.{IsEntry, irq_count, step_count}
 use Rattle.event_log.specs.declared.entry.Entry.{Entry}
-use Rattle.kernel_state.specs.Sound.{IsSound as IsSoundKernel}
+use Rattle.kernel_state.specs.Serves.{Serves}
 use Rattle.module_manager.specs.declared.modules.Module.{Module}
 use Rattle.region_guard.specs.Memory.{IsSound as IsSoundMemory}
 use Rattle.rv_core.specs.Execute.{Effect, Completes, Stores, Calls, Faults}
@@ -38,7 +38,7 @@ images_shown stay w now e sound is = ap (λ (v : World). images_in v.parts.memor
 -- what a world keeps beside its regions and its owners
 pub record Keeps (w : World) : Type 0 where
   pub board : IsBoard w.board
-  pub kernel : IsSoundKernel w.parts.kernel
+  pub serves : Serves w.parts.kernel w.parts.memory
   pub memory : IsSoundMemory w.parts.memory
   pub modules : length w.parts.modules ≡ length w.board.modules
   pub devices : length w.parts.devices ≡ length w.board.devices
@@ -49,7 +49,7 @@ is_world stay owners w now e sound is keeps =
     let regions = stay w e sound in
     record {
       board = keeps.board;
-      kernel = keeps.kernel;
+      serves = keeps.serves;
       memory = keeps.memory;
       regions = ap (λ (v : World). v.parts.memory.regions) (sym is)
           ∙ (regions.0 ∙ (sound.regions ∙ (sym regions.1 ∙ ap (λ (v : World). regions_of 0 v.parts.modules) is)));
@@ -151,14 +151,14 @@ irq_next b p p' h h' d word is steps irqs =
 
 -- and what it keeps
 pub irq_keeps : (b : Board) (p p' : Parts) (h h' : List Entry) (d word : ℕ) → IsWorld (shown b p h) → d < length p.devices
-    → p' ≡ interrupted b p d word → irq_count h' ≡ irq_count h + 1 → IsSoundKernel p'.kernel → IsSoundMemory p'.memory → Keeps (shown b p' h')
-irq_keeps b p p' h h' d word world inside is irqs kernel memory =
+    → p' ≡ interrupted b p d word → irq_count h' ≡ irq_count h + 1 → Serves p'.kernel p'.memory → IsSoundMemory p'.memory → Keeps (shown b p' h')
+irq_keeps b p p' h h' d word world inside is irqs serves memory =
     let n = irq_count h in
     let devices : p'.devices ≡ noted p.devices d (status_by b p d word) = ap (λ (x : Parts). x.devices) is ∙ interrupt_devices b p d word in
     let more = taken_more p.devices d (status_by b p d word) n inside world.taken in
     record {
       board = world.board;
-      kernel = kernel;
+      serves = serves;
       memory = memory;
       modules = ap (λ (x : Parts). length x.modules) is ∙ (acted_count p (device_of b d).action (device_of b d).target word ∙ world.modules);
       devices = ap (λ (ds : List Device). length ds) devices ∙ (length-set p.devices d _ ∙ world.devices);

@@ -6,6 +6,7 @@ use Rattle.std.proofs.lemmas.List.Elements.{All-head, All-set, All-tail}
 use Rattle.flat_ram.specs.Laws.{LengthStays, OthersStay}
 use Rattle.kernel_state.specs.declared.kernel.Kernel.{Kernel}
 use Rattle.module_loader.specs.Want.{want_of}
+use Rattle.module_manager.specs.Laws.{BeginningKeepsMemory}
 use Rattle.module_manager.specs.Modules.{IsPlaced, loaded, module_at, with_state}
 use Rattle.module_manager.specs.Start.{StartOutcome, can_start, start_row, zeroed}
 use Rattle.module_manager.specs.declared.modules.Module.{Module}
@@ -94,22 +95,22 @@ pub record AreStarted (g : Memory) (ms : List Module) (now : Memory) (after : Li
   pub count : length after ≡ length ms
   pub images : images_in now after ≡ images_in g ms
 
-is_started : LengthStays → OthersStay → SoundnessStays → (ms : List Module) (k : Kernel) (g : Memory) (i : ℕ) → AreLaid g ms → i < length ms
-    → AreStarted g ms (start_row ms k g i).memory (start_row ms k g i).modules
+is_started : LengthStays → OthersStay → SoundnessStays → BeginningKeepsMemory → (ms : List Module) (k : Kernel) (g : Memory) (i : ℕ) → AreLaid g ms → i < length ms
+    → AreStarted g ms (start_row ms k g i).change.memory (start_row ms k g i).modules
 unfolding start_row
-is_started lengths stays sound ms k g i laid below =
+is_started lengths stays sound begins ms k g i laid below =
     let r = module_at ms i in
-    cond_both (can_start k r) _ _ (λ (o : StartOutcome). AreStarted g ms o.memory o.modules)
-    (λ _. record {
+    cond_both (can_start k r) _ _ (λ (o : StartOutcome). AreStarted g ms o.change.memory o.modules)
+    (λ _. subst (λ (h : Memory). AreStarted g ms h (with_state ms i Started)) (sym (begins k (zeroed g r) i r)) (record {
       laid = zeroed_lies sound g ms i laid below;
       count = length-set ms i (record r { state = Started });
       images = images_by_state (zeroed g r) ms i Started ∙ images_beside_data lengths stays g ms i laid below;
-    })
+    }))
     (λ _. record { laid = laid; count = refl; images = refl })
 
 -- the same of what a start came to
-pub after_start : LengthStays → OthersStay → SoundnessStays → (ms after : List Module) (k : Kernel) (g now : Memory) (i : ℕ) → AreLaid g ms
-    → i < length ms → now ≡ (start_row ms k g i).memory → after ≡ (start_row ms k g i).modules → AreStarted g ms now after
-after_start lengths stays sound ms after k g now i laid below memory modules =
+pub after_start : LengthStays → OthersStay → SoundnessStays → BeginningKeepsMemory → (ms after : List Module) (k : Kernel) (g now : Memory) (i : ℕ) → AreLaid g ms
+    → i < length ms → now ≡ (start_row ms k g i).change.memory → after ≡ (start_row ms k g i).modules → AreStarted g ms now after
+after_start lengths stays sound begins ms after k g now i laid below memory modules =
     subst (AreStarted g ms now) (sym modules)
-    (subst (λ (h : Memory). AreStarted g ms h (start_row ms k g i).modules) (sym memory) (is_started lengths stays sound ms k g i laid below))
+    (subst (λ (h : Memory). AreStarted g ms h (start_row ms k g i).modules) (sym memory) (is_started lengths stays sound begins ms k g i laid below))

@@ -1,11 +1,13 @@
 -- The trace of events: its world is what the events make of the first one, and no wait ends.
 use Rattle.std.proofs.Common.{◌≡◌, List, [], ◌∷◌, ◌++◌, refl, ap, sym, fold}
 use Rattle.event_log.specs.Events.{Event, events_of}
+use Rattle.tx_types.specs.End.{WaitEnd}
 use Rattle.board_core.specs.After.{after}
 use Rattle.board_core.specs.Boot.{booted}
 use Rattle.board_core.specs.Laws.{TotalsAreOfEnded}
 use Rattle.board_core.specs.Report.{report_of}
-use Rattle.board_core.specs.Trace.{Traced, WaitEnd, begun, next, totals_of}
+use Rattle.board_core.specs.Run.{Origin}
+use Rattle.board_core.specs.Trace.{Traced, begun, next, totals_of}
 
 pub now_is : (t : Traced) (es : List Event) → (fold next t es).now ≡ fold after t.now es
 now_is t [] = refl

@@ -13,7 +13,7 @@ use Rattle.kernel_state.specs.declared.answer.Answer.{Answer}
 use Rattle.kernel_state.specs.declared.answer.Answer.TheVariants.{Code}
 use Rattle.thread_calls.specs.ThreadRows.{resumption}
 use Rattle.board_core.specs.Devices.{noted}
-use Rattle.board_core.specs.Step.{with_outcome}
+use Rattle.board_core.specs.Step.{with_change}
 use Rattle.board_core.specs.declared.parts.Parts.{Parts}
 
 -- what an action leaves, and its status
@@ -27,7 +27,7 @@ status_of (Code c) = c
 status_of _ = 0
 
 abbrev pub by_service : Parts → Outcome → Acted
-by_service p o = record { parts = with_outcome p o; status = status_of o.answer }
+by_service p o = record { parts = with_change p o.change; status = status_of o.answer }
 
 -- the lowest thread of a name is resumed
 unfoldable pub resumed_by_name : Parts → List ℕ → Acted

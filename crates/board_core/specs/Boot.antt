@@ -23,6 +23,7 @@ use Rattle.module_manager.specs.Modules.{loaded}
 use Rattle.module_manager.specs.Start.{StartOutcome, start_row}
 use Rattle.module_manager.specs.declared.modules.Module.{Module}
 use Rattle.board_core.specs.Devices.{fresh_device}
+use Rattle.board_core.specs.Step.{with_change}
 use Rattle.board_core.specs.World.{World}
 use Rattle.board_core.specs.declared.boot.BootErr.{BootErr}
 use Rattle.board_core.specs.declared.boot.BootErr.TheVariants.{NoMemory, Image, NoRoom}
@@ -146,7 +147,7 @@ abbrev pub start_of : Parts → ℕ → StartOutcome
 start_of p m = start_row p.modules p.kernel p.memory m
 
 abbrev pub after_start : Parts → StartOutcome → Parts
-after_start p o = record p { kernel = o.kernel; memory = o.memory; modules = o.modules }
+after_start p o = record (with_change p o.change) { modules = o.modules }
 
 -- the modules from module i on that are to start are started, in board order
 abbrev pub one_started : ℕ → BoardModule → Parts → Parts

@@ -3,7 +3,8 @@ use Rattle.std.specs.Prelude.{◌≡◌, ◌≢◌, ⊤, ℕ, ◌+◌, ◌<◌, 
 use Rattle.event_log.specs.Events.{Event, Step, Irq}
 use Rattle.event_log.specs.declared.entry.Entry.{Entry}
 use Rattle.kernel_state.specs.Kernel.{thread, is_thread, module_of}
-use Rattle.kernel_state.specs.Sound.{IsSound as IsSoundKernel}
+use Rattle.kernel_state.specs.Range.{IsOutsideAll}
+use Rattle.kernel_state.specs.Serves.{Serves}
 use Rattle.kernel_state.specs.Thread.{is_over}
 use Rattle.module_loader.specs.Want.{want_of}
 use Rattle.module_manager.specs.Modules.{module_at}
@@ -15,7 +16,7 @@ use Rattle.rv_core.specs.declared.bus.Cause.{Cause}
 use Rattle.board_file.specs.Rules.{IsBoard}
 use Rattle.board_core.specs.After.{after}
 use Rattle.board_core.specs.Boot.{regions_of}
-use Rattle.board_core.specs.Frame.{frame, IsOutsideAll}
+use Rattle.board_core.specs.Frame.{frame}
 use Rattle.board_core.specs.Owners.{AreOwned, IsStarted}
 use Rattle.board_core.specs.Report.{report_of}
 use Rattle.board_core.specs.Run.{Origin, run}
@@ -26,7 +27,7 @@ use Rattle.board_core.specs.World.{World}
 -- what holds of every world that a machine stands for
 pub record IsWorld (w : World) : Type 0 where
   pub board : IsBoard w.board
-  pub kernel : IsSoundKernel w.parts.kernel
+  pub serves : Serves w.parts.kernel w.parts.memory
   pub memory : IsSoundMemory w.parts.memory
   pub regions : w.parts.memory.regions ≡ regions_of 0 w.parts.modules
   pub modules : length w.parts.modules ≡ length w.board.modules

@@ -6,7 +6,7 @@ use Rattle.rv_core.specs.Hart.{HartState}
 use Rattle.rv_core.specs.declared.bus.Cause.{Cause}
 use Rattle.region_guard.specs.Memory.{Memory, with_number}
 use Rattle.kernel_state.specs.Kernel.{thread, with_thread, module_of}
-use Rattle.kernel_state.specs.Outcome.{Outcome}
+use Rattle.kernel_state.specs.Change.{Change}
 use Rattle.kernel_state.specs.declared.kernel.Kernel.{Kernel}
 use Rattle.call_dispatch.specs.Ecall.{dispatched}
 use Rattle.module_manager.specs.Halt.{halted}
@@ -28,13 +28,13 @@ ran_on p t h g = record p { kernel = with_hart p.kernel t h; memory = g }
 abbrev pub next_effect : Parts → ℕ → Effect
 next_effect p t = executed (seen (module_of p.kernel t) p.memory) (thread p.kernel t).hart
 
--- what a service leaves
-abbrev pub with_outcome : Parts → Outcome → Parts
-with_outcome p o = record p { kernel = o.kernel; memory = o.memory }
+-- a change of kernel and memory
+abbrev pub with_change : Parts → Change → Parts
+with_change p c = record p { kernel = c.kernel; memory = c.memory }
 
 -- a thread whose pc is past its call: the service that it asks for is served
 abbrev pub after_call : Parts → ℕ → Parts
-after_call p t = with_outcome p (dispatched p.kernel p.memory t)
+after_call p t = with_change p (dispatched p.kernel p.memory t).change
 
 -- an instruction that can't be executed halts its module, which keeps the cause
 unfoldable pub after_fault : Parts → ℕ → Cause → Parts
@@ -42,10 +42,7 @@ after_fault p t cause =
     let k = p.kernel in
     let m = module_of k t in
     let fault : Fault = record { thread = t; cause = cause; pc = (thread k t).hart.pc } in
-    record p {
-      kernel = halted k m;
-      modules = with_state p.modules m (Faulted fault);
-    }
+    record (with_change p (halted k p.memory m)) { modules = with_state p.modules m (Faulted fault) }
 
 abbrev pub after_effect : Parts → ℕ → Effect → Parts
 after_effect p t (Completes h) = ran_on p t h p.memory

@@ -4,13 +4,9 @@ use Rattle.tx_types.specs.declared.waits.End.{End}
 use Rattle.tx_types.specs.declared.waits.End.TheVariants.{Satisfied, TimedOut, Aborted, Deleted, Gone}
 use Rattle.board_values.specs.declared.report.Totals.{Totals}
 use Rattle.event_log.specs.Events.{Event}
+use Rattle.tx_types.specs.End.{WaitEnd}
 use Rattle.board_core.specs.After.{after}
 use Rattle.board_core.specs.World.{World}
-
--- a wait that ended, by its number, and how
-pub record WaitEnd : Type 0 where
-  pub wait : ℕ
-  pub how : End
 
 pub record Traced : Type 0 where
   pub now : World

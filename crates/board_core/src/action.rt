@@ -3,7 +3,7 @@
 //! Only `resume` is built: each other action answers FEATURE_NOT_ENABLED and changes nothing. The
 //! word isn't used, and what is kept of the device is written elsewhere.
 ghost use Rattle.std.specs.Prelude.{◌≡◌, ◌<◌, length};
-ghost use Rattle.kernel_state.specs.Sound.{IsSound};
+ghost use Rattle.kernel_state.specs.Serves.{Serves};
 ghost use Rattle.board_core.specs.Action.{acted, interrupted, resumed_by_name};
 ghost use Rattle.board_core.specs.Devices.{device_at};
 
@@ -17,12 +17,12 @@ impl Parts {
     /// An interrupt of a device of the board with a word: its action is made, and the device keeps the
     /// status.
     pub(crate) fn interrupt(&mut self, board: &Board, d: DevNo, word: u32)
-        requires sound { IsSound self.old.kernel }
+        requires serves { Serves self.old.kernel self.old.memory }
         requires board { d < length board.now.devices }
         requires device { d < length self.old.devices }
         requires room { (device_at self.old.devices d).taken < 65536 }
         ensures parts { self.new ≡ interrupted board.now self.old d word }
-        ensures sound { IsSound self.new.kernel }
+        ensures serves { Serves self.new.kernel self.new.memory }
     {
         let device = &board.devices.items()[d.number() as usize];
         let status = self.act(device.action, &device.target, word);
@@ -32,11 +32,11 @@ impl Parts {
     /// Makes the action of a device, on the object or module of a name, and gives its status.
     /// FEATURE_NOT_ENABLED where the action isn't built.
     fn act(&mut self, action: Action, target: &Name, word: u32) -> Code
-        requires { IsSound self.old.kernel }
+        requires { Serves self.old.kernel self.old.memory }
         ensures parts { self.new ≡ (acted self.old action target.now word).parts }
         ensures status { result ≡ (acted self.old action target.now word).status }
         ensures devices { self.new.devices ≡ self.old.devices }
-        ensures sound { IsSound self.new.kernel }
+        ensures serves { Serves self.new.kernel self.new.memory }
     {
         let _ = word;
         match action {
@@ -48,11 +48,11 @@ impl Parts {
     /// Resumes the lowest thread of a name. THREAD_ERROR where there is none.
     #[tactic(auto, unfolding(crate::specs::Action::resumed_by_name))]
     fn resume_by_name(&mut self, name: &Name) -> Code
-        requires { IsSound self.old.kernel }
+        requires { Serves self.old.kernel self.old.memory }
         ensures parts { self.new ≡ (resumed_by_name self.old name.now).parts }
         ensures status { result ≡ (resumed_by_name self.old name.now).status }
         ensures devices { self.new.devices ≡ self.old.devices }
-        ensures sound { IsSound self.new.kernel }
+        ensures serves { Serves self.new.kernel self.new.memory }
     {
         match self.kernel.objects.find(Kind::Thread, name) {
             Some(t) => resume_object(&mut self.kernel, &mut self.memory, t),

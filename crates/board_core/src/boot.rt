@@ -2,7 +2,7 @@
 //!
 //! All memory that its machine ever needs is taken here.
 ghost use Rattle.std.specs.Prelude.{◌≡◌, ◌≤◌, ◌<◌, [], length, IfOk, IfErr, None};
-ghost use Rattle.kernel_state.specs.Sound.{IsSound};
+ghost use Rattle.kernel_state.specs.Serves.{Serves};
 ghost use Rattle.board_file.specs.Rules.{IsBoard};
 ghost use Rattle.board_core.specs.Boot.{Refuses, after_start, all_started, boot_refusal, booted_parts, contents, loaded_parts, one_started, start_of};
 ghost use Rattle.board_core.specs.Laid.{AreLaid};
@@ -17,6 +17,7 @@ use board_file::{Board, BoardModule};
 use event_log::History;
 use flat_ram::a_write_changes_its_range_alone;
 use module_manager::Manager;
+use module_manager::laws::a_start_writes_its_data_region_alone;
 use module_preamble::PreErr;
 use region_guard::a_write_changes_its_bytes_alone;
 use std::alloc::{AllocError, Global};
@@ -58,7 +59,8 @@ fn load(alloc: Global, board: &Board, images: &[Vec<u8>]) -> Result<Parts, BootE
     requires board { IsBoard board.now }
     requires images { length images.now ≡ length board.now.modules }
     ensures parts { IfOk result (λ p. p ≡ loaded_parts board.now (contents images.now)) }
-    ensures sound { IfOk result (λ p. IsSound p.kernel) }
+    ensures serves { IfOk result (λ p. Serves p.kernel p.memory) }
+    ensures levels { IfOk result (λ p. p.kernel.ready.levels ≡ 32) }
     ensures laid { IfOk result (λ p. AreLaid p.memory p.modules) }
     ensures count { IfOk result (λ p. length p.modules ≡ length board.now.modules) }
     ensures images { IfOk result (λ p. images_in p.memory p.modules ≡ contents images.now) }
@@ -81,12 +83,14 @@ fn load(alloc: Global, board: &Board, images: &[Vec<u8>]) -> Result<Parts, BootE
 impl Parts {
     /// Starts a module, and gives the status of the start.
     fn start(&mut self, i: ModNo) -> Code
-        requires sound { IsSound self.old.kernel }
+        requires serves { Serves self.old.kernel self.old.memory }
+        requires levels { self.old.kernel.ready.levels ≡ 32 }
         requires laid { AreLaid self.old.memory self.old.modules }
         requires row { i < length self.old.modules }
         ensures parts { self.new ≡ after_start self.old (start_of self.old i) }
         ensures status { result ≡ (start_of self.old i).answer }
-        ensures sound { IsSound self.new.kernel }
+        ensures serves { Serves self.new.kernel self.new.memory }
+        ensures levels { self.new.kernel.ready.levels ≡ 32 }
         ensures laid { AreLaid self.new.memory self.new.modules }
         ensures count { length self.new.modules ≡ length self.old.modules }
         ensures images { images_in self.new.memory self.new.modules
@@ -94,16 +98,19 @@ impl Parts {
     {
         a_write_changes_its_range_alone();
         a_write_changes_its_bytes_alone();
+        a_start_writes_its_data_region_alone();
         self.modules.start(&mut self.kernel, &mut self.memory, i)
     }
 
     /// Starts a module, where it is to start.
     fn start_one(&mut self, m: &BoardModule, i: ModNo)
-        requires sound { IsSound self.old.kernel }
+        requires serves { Serves self.old.kernel self.old.memory }
+        requires levels { self.old.kernel.ready.levels ≡ 32 }
         requires laid { AreLaid self.old.memory self.old.modules }
         requires row { i < length self.old.modules }
         ensures parts { self.new ≡ one_started i m.now self.old }
-        ensures sound { IsSound self.new.kernel }
+        ensures serves { Serves self.new.kernel self.new.memory }
+        ensures levels { self.new.kernel.ready.levels ≡ 32 }
         ensures laid { AreLaid self.new.memory self.new.modules }
         ensures count { length self.new.modules ≡ length self.old.modules }
         ensures images { images_in self.new.memory self.new.modules
@@ -116,11 +123,13 @@ impl Parts {
 
     /// Starts the modules that are to start, in their order.
     fn start_all(&mut self, modules: &[BoardModule])
-        requires sound { IsSound self.old.kernel }
+        requires serves { Serves self.old.kernel self.old.memory }
+        requires levels { self.old.kernel.ready.levels ≡ 32 }
         requires laid { AreLaid self.old.memory self.old.modules }
         requires count { length self.old.modules ≡ length modules.now }
         ensures parts { self.new ≡ all_started 0 modules.now self.old }
-        ensures sound { IsSound self.new.kernel }
+        ensures serves { Serves self.new.kernel self.new.memory }
+        ensures levels { self.new.kernel.ready.levels ≡ 32 }
         ensures laid { AreLaid self.new.memory self.new.modules }
         ensures count { length self.new.modules ≡ length self.old.modules }
         ensures images { images_in self.new.memory self.new.modules
@@ -138,7 +147,8 @@ fn booted_parts(alloc: Global, board: &Board, images: &[Vec<u8>]) -> Result<Part
     requires board { IsBoard board.now }
     requires images { length images.now ≡ length board.now.modules }
     ensures parts { IfOk result (λ p. p ≡ booted_parts board.now (contents images.now)) }
-    ensures sound { IfOk result (λ p. IsSound p.kernel) }
+    ensures serves { IfOk result (λ p. Serves p.kernel p.memory) }
+    ensures levels { IfOk result (λ p. p.kernel.ready.levels ≡ 32) }
     ensures laid { IfOk result (λ p. AreLaid p.memory p.modules) }
     ensures count { IfOk result (λ p. length p.modules ≡ length board.now.modules) }
     ensures images { IfOk result (λ p. images_in p.memory p.modules ≡ contents images.now) }

@@ -26,6 +26,7 @@ pub fn a_frame_bounds_an_event()
     a_write_changes_its_bytes_alone();
     what_may_be_used_is_in_ram();
     a_call_writes_its_result_alone();
+    a_halt_spares_other_modules();
 }
 
 /// An event changes no region, nor where a module lies and of what it is made, nor its image.
@@ -39,6 +40,7 @@ pub fn an_event_keeps_regions_and_images()
     a_write_changes_its_bytes_alone();
     what_may_be_used_is_in_ram();
     a_call_writes_its_result_alone();
+    a_halt_spares_other_modules();
 }
 
 /// Used object slots stay with started modules. So the running thread's module is started, and a

@@ -83,6 +83,7 @@ pub(crate) fn kernel_with(alloc: Global, rows: &[(Preamble, Placed)]) -> Result<
     requires placed { All (λ r. IsPlaced r.0 r.1) rows.now }
     ensures spots { IfOk result (λ k. k ≡ with_spots 0 (map loaded rows.now) blank_kernel) }
     ensures sound { IfOk result IsSoundKernel }
+    ensures levels { IfOk result (λ k. k.ready.levels ≡ 32) }
 {
     let mut kernel = Kernel::new(alloc)?;
     for (i, (p, at)) in rows.iter().enumerate() {

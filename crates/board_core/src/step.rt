@@ -5,7 +5,7 @@
 //! fault can change who runs, so that is asked after them alone.
 ghost use Rattle.std.specs.Prelude.{◌≡◌, Some};
 ghost use Rattle.kernel_state.specs.Kernel.{thread};
-ghost use Rattle.kernel_state.specs.Sound.{IsSound};
+ghost use Rattle.kernel_state.specs.Serves.{Serves};
 ghost use Rattle.board_core.specs.Burst.{burst_of, hart_at, made, made_of, out_at};
 ghost use Rattle.board_core.specs.Step.{after_call, after_fault, ran_on};
 
@@ -20,10 +20,10 @@ impl Parts {
     /// Makes the steps up to the next call or fault, with that, at most the given number, and says
     /// how many; all of them where no thread runs.
     pub(crate) fn make_steps(&mut self, most: u32) -> u32
-        requires { IsSound self.old.kernel }
+        requires { Serves self.old.kernel self.old.memory }
         ensures steps { result ≡ (made most self.old).steps }
         ensures parts { self.new ≡ (made most self.old).parts }
-        ensures sound { IsSound self.new.kernel }
+        ensures serves { Serves self.new.kernel self.new.memory }
     {
         match self.kernel.running() {
             Some(t) => self.run(t, most),
@@ -33,11 +33,11 @@ impl Parts {
 
     /// Makes the steps of the running thread.
     fn run(&mut self, t: ThreadNo, most: u32) -> u32
-        requires sound { IsSound self.old.kernel }
+        requires serves { Serves self.old.kernel self.old.memory }
         requires runs { self.old.kernel.ready.run ≡ Some t }
         ensures steps { result ≡ (made_of most self.old (Some t)).steps }
         ensures parts { self.new ≡ (made_of most self.old (Some t)).parts }
-        ensures sound { IsSound self.new.kernel }
+        ensures serves { Serves self.new.kernel self.new.memory }
     {
         let ran = self.execute(t, most);
         match ran.out {
@@ -50,13 +50,13 @@ impl Parts {
 
     /// Executes a thread's code, for its module.
     fn execute(&mut self, t: ThreadNo, most: u32) -> BurstEnd
-        requires { IsSound self.old.kernel }
+        requires { Serves self.old.kernel self.old.memory }
         ensures done { result.done ≡ (burst_of self.old t most).done }
         ensures out { result.out ≡ out_at (burst_of self.old t most).end }
         ensures parts { self.new ≡ (let b = burst_of self.old t most in
             ran_on self.old t (hart_at b.end b.hart) b.memory) }
         ensures runs { self.new.kernel.ready ≡ self.old.kernel.ready }
-        ensures sound { IsSound self.new.kernel }
+        ensures serves { Serves self.new.kernel self.new.memory }
     {
         a_kernel_stays_sound();
         let module = self.kernel.module_of(t);
@@ -65,10 +65,10 @@ impl Parts {
 
     /// Serves the call of a thread.
     fn call(&mut self, t: ThreadNo)
-        requires sound { IsSound self.old.kernel }
+        requires serves { Serves self.old.kernel self.old.memory }
         requires runs { self.old.kernel.ready.run ≡ Some t }
         ensures parts { self.new ≡ after_call self.old t }
-        ensures sound { IsSound self.new.kernel }
+        ensures serves { Serves self.new.kernel self.new.memory }
     {
         dispatch(&mut self.kernel, &mut self.memory, t);
     }
@@ -76,10 +76,10 @@ impl Parts {
     /// Halts the module of a thread whose next instruction can't be executed.
     #[tactic(auto, unfolding(crate::specs::Step::after_fault))]
     fn fault(&mut self, t: ThreadNo, cause: Cause)
-        requires sound { IsSound self.old.kernel }
+        requires serves { Serves self.old.kernel self.old.memory }
         requires runs { self.old.kernel.ready.run ≡ Some t }
         ensures parts { self.new ≡ after_fault self.old t cause }
-        ensures sound { IsSound self.new.kernel }
+        ensures serves { Serves self.new.kernel self.new.memory }
     {
         who_runs_is_a_thread();
         let pc = self.kernel.hart(t).pc;

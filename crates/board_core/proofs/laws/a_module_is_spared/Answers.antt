@@ -12,10 +12,11 @@ returns c =
       outside_stays = c.a_write_changes_its_bytes_alone.ensures.outside_stays;
       in_ram = c.what_may_be_used_is_in_ram.ensures.in_ram;
       call = c.a_call_writes_its_result_alone.ensures;
+      halt = c.a_halt_spares_other_modules.ensures.memory;
     } in
     record {
       code = code_is_in_no_frame lower.is_ready lower.is_thread;
       «data» = data_is_its_modules lower;
       fault = fault_spares_others c.a_halt_spares_other_modules.ensures.threads;
-      bytes = fault_keeps_bytes;
+      bytes = fault_keeps_bytes lower;
     }

@@ -13,5 +13,6 @@ returns c =
       outside_stays = c.a_write_changes_its_bytes_alone.ensures.outside_stays;
       in_ram = c.what_may_be_used_is_in_ram.ensures.in_ram;
       call = c.a_call_writes_its_result_alone.ensures;
+      halt = c.a_halt_spares_other_modules.ensures.memory;
     } in
     record { regions = regions_stay lower; images = images_stay lower }

@@ -1,5 +1,6 @@
 use Rattle.std.proofs.Common.{◌≡◌, ◌+◌, [], None, drop, get_or, map, ap, sym, ◌∙◌, arith}
 use Rattle.kernel_state.specs.Kernel.{with_spot}
+use Rattle.kernel_state.specs.declared.kernel.Kernel.{Kernel}
 use Rattle.kernel_state.specs.declared.spot.Spot.{Spot}
 use Rattle.module_loader.specs.declared.placement.Placed.{Placed}
 use Rattle.module_manager.specs.Modules.{loaded}
@@ -26,4 +27,5 @@ loop-i-preserved c =
     record {
       due = ap (with_spots (i + 1) (map loaded (drop (i + 1) rows))) after ∙ (sym (spots_more rows i blank k c.loop-i-test.true) ∙ c.loop-i.invariant.due);
       sound = c.set_spot.ensures.sound c.loop-i.invariant.sound (record { shell = omega arith; callback = tt });
+      levels = ap (λ (q : Kernel). q.ready.levels) after ∙ c.loop-i.invariant.levels;
     }

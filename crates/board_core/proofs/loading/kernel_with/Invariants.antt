@@ -10,4 +10,5 @@ abbrev pub invariant-loop-i : goal.invariant-loop-i
 invariant-loop-i l = record {
   due : with_spots l.i (map loaded (drop l.i l.rows)) l.kernel ≡ with_spots 0 (map loaded l.rows) blank_kernel;
   sound : IsSound l.kernel;
+  levels : l.kernel.ready.levels ≡ 32;
 }

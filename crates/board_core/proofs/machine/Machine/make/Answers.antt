@@ -40,7 +40,7 @@ leads c =
     made_leads laws m.board m.parts c.make_steps-made.new.self h c.add_steps.new.self.entries c.args.most n c.self.invariant.world
     c.make_steps-made.ensures.steps c.make_steps-made.ensures.parts
     (ap step_count c.add_steps.ensures.entries ∙ grows.steps n h) (ap irq_count c.add_steps.ensures.entries ∙ grows.irqs n h)
-    c.make_steps-made.ensures.sound c.is_guarded.ensures
+    c.make_steps-made.ensures.serves c.is_guarded.ensures
 
 -- no word is taken by them
 counts : (c : After-add_steps) → AreCounted c.make_steps-made.new.self.devices c.add_steps.new.self.entries

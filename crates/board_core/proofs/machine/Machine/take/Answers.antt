@@ -1,4 +1,4 @@
-use Rattle.std.proofs.Common.{ℕ, ◌+◌, ◌<◌, ◌≤◌, ◌≡◌, List, length, sym, ap, subst, ◌∙◌, arith}
+use Rattle.std.proofs.Common.{ℕ, ◌+◌, ◌<◌, ◌≤◌, ◌≡◌, List, length, All, sym, ap, subst, ◌∙◌, arith}
 use Rattle.std.proofs.lemmas.List.Elements.{All-get_or, All-push}
 use Rattle.event_log.specs.Events.{Irq, events_of}
 use Rattle.event_log.specs.Log.{IsEntry, irq_count, step_count, with_irq}
@@ -79,7 +79,7 @@ invariant_of-self c =
     (subst (AreEntries n) (sym c.add_irq.ensures.entries)
     (All-push (IsEntry n) h (entry.Irq d w) c.self.invariant.its_devices (its_board before, omega (arith, c.ranges.w))))
     (ap events_of c.add_irq.ensures.entries ∙ c.a_history_grows_by_one_event.ensures.irq d w h) (shows at)
-    (irq_keeps m.board m.parts p' h h' d w c.self.invariant.world (is_kept before) c.interrupt.ensures.parts (irqs_more at) c.interrupt.ensures.sound
+    (irq_keeps m.board m.parts p' h h' d w c.self.invariant.world (is_kept before) c.interrupt.ensures.parts (irqs_more at) c.interrupt.ensures.serves
     c.is_guarded.ensures)
     (counts at (is_kept before))
 

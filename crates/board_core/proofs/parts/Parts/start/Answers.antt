@@ -15,7 +15,8 @@ started : (c : After-start) → AreStarted c.args.self.now.memory c.args.self.no
 started c =
     let p = c.args.self.now in
     let laws = c.a_write_changes_its_range_alone.ensures in
-    after_start laws.length_stays laws.others_stay c.a_write_changes_its_bytes_alone.ensures.soundness_stays p.modules c.start.new.self p.kernel p.memory
+    after_start laws.length_stays laws.others_stay c.a_write_changes_its_bytes_alone.ensures.soundness_stays
+    c.a_start_writes_its_data_region_alone.ensures.beginning p.modules c.start.new.self p.kernel p.memory
     c.start.new.g c.args.i c.requires.laid c.requires.row c.start.ensures.memory c.start.ensures.modules
 
 pub returns-clause-laid : goal.returns-clause-laid

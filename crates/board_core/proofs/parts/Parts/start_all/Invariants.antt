@@ -1,5 +1,5 @@
 use Rattle.std.proofs.Common.{◌≡◌, drop, length}
-use Rattle.kernel_state.specs.Sound.{IsSound}
+use Rattle.kernel_state.specs.Serves.{Serves}
 use Rattle.board_core.specs.Boot.{all_started}
 use Rattle.board_core.specs.Laid.{AreLaid}
 use Rattle.board_core.specs.Laws.{images_in}
@@ -9,7 +9,8 @@ use Rattle.board_core.proofs.parts.Parts.start_all.Given as goal
 abbrev pub invariant-loop-i : goal.invariant-loop-i
 invariant-loop-i l = record {
   due : all_started l.i (drop l.i l.modules) l.self ≡ all_started 0 l.modules l.initial.self;
-  sound : IsSound l.self.kernel;
+  serves : Serves l.self.kernel l.self.memory;
+  levels : l.self.kernel.ready.levels ≡ 32;
   laid : AreLaid l.self.memory l.self.modules;
   count : length l.self.modules ≡ length l.initial.self.modules;
   images : images_in l.self.memory l.self.modules ≡ images_in l.initial.self.memory l.initial.self.modules;
