@@ -5,7 +5,6 @@
 //! entry goes into the lane in that call, too. Nothing here looks into the machine.
 #![tactic(auto)]
 
-mod count;
 mod laws;
 mod lock;
 mod record;

@@ -9,7 +9,6 @@ ghost use Rattle.kernel_lock.specs.Holds.{Holds};
 ghost use Rattle.kernel_lock.specs.Turn.{after_turn, TookOneOf};
 ghost use Rattle.kernel_lock.specs.declared.turn.Turn.TheVariants.{Stepped, Idle};
 
-use crate::count::count_of;
 use crate::record::{record_irq, step_where};
 use crate::session::Session;
 use crate::turn::Turn;
@@ -91,10 +90,10 @@ impl<'a, O: Session> Core<'a, O> {
         self.machine.history().steps()
     }
 
-    /// How many words of a device were taken. It looks through the whole history.
+    /// How many words of a device were taken, by the machine's own count.
     pub fn taken(&self, d: DevNo) -> u32
         ensures { result ≡ length (words_of d self.now.machine.history) }
     {
-        count_of(self.machine.history(), d)
+        self.machine.taken(d)
     }
 }
