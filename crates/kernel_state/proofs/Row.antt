@@ -1,6 +1,6 @@
 -- The parts of a row: each keeps that a row writes in its ranges alone, that a refusal comes with no change, and that the caller
 -- has its registers afterwards.
-use Rattle.std.proofs.Common.{◌≡◌, ◌≢◌, ℕ, ◌+◌, ◌*◌, ◌<◌, ◌≤◌, ◌==◌, Bool, true, List, [], ◌∷◌, length, Option, None, Some, Result, Ok, Err, refl, sym, ap, ◌∙◌, subst, ⊎_elim, inl, inr, arith}
+use Rattle.std.proofs.Common.{◌≡◌, ℕ, ◌+◌, ◌*◌, ◌<◌, ◌≤◌, true, List, [], ◌∷◌, length, Option, None, Some, Ok, Err, refl, sym, ap, ◌∙◌, subst, ⊎_elim, inl, inr, arith}
 use Rattle.std.proofs.lemmas.Bool.{cond-true, cond_both, eqb-true}
 use Rattle.std.proofs.lemmas.List.Elements.{All-head}
 use Rattle.machine_words.specs.Number.{low_bytes}
@@ -12,16 +12,13 @@ use Rattle.flat_ram.specs.Laws.{IsOutside, LengthStays}
 use Rattle.region_guard.specs.Laws.{BytesOutsideStay, UsedIsInRam}
 use Rattle.region_guard.specs.Memory.{Memory, IsSound as IsSoundMemory, byte, may, ram_base}
 use Rattle.region_guard.specs.declared.region.Access.TheVariants.{Store}
-use Rattle.kernel_state.specs.Change.{Change, quiet}
-use Rattle.kernel_state.specs.Kernel.{thread, is_thread}
+use Rattle.kernel_state.specs.Kernel.{thread}
 use Rattle.kernel_state.specs.Laws.{RunningIsReady, ReadyIsThread}
-use Rattle.kernel_state.specs.Outcome.{Outcome, answered}
+use Rattle.kernel_state.specs.Outcome.{answered}
 use Rattle.kernel_state.specs.Range.{Range, WritesAlone, allowed, range}
 use Rattle.kernel_state.specs.Row.{IsKept, IsNoRefusal, RunningCalls, AnsweredIsKept, ChangedIsKept, DoneIsKept, WrittenIsKept, UnlessIsKept, FoundIsKept, GivenIsKept, EitherIsKept}
 use Rattle.kernel_state.specs.Sound.{IsThread}
-use Rattle.kernel_state.specs.declared.answer.Answer.{Answer}
 use Rattle.kernel_state.specs.declared.answer.Answer.TheVariants.{Code}
-use Rattle.kernel_state.specs.declared.kernel.Kernel.{Kernel}
 use Rattle.kernel_state.proofs.Sound.{thread_of}
 
 pub running_calls : RunningIsReady → ReadyIsThread → RunningCalls

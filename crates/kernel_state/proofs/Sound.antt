@@ -1,17 +1,17 @@
 -- A kernel is sound where another was, if each number looks the same or is right; so it is where one thread, or one slot, changes.
-use Rattle.std.proofs.Common.{◌≡◌, ◌≢◌, ◌⊎◌, ℕ, ◌<◌, ◌≤◌, ◌%◌, Bool, true, false, min, List, [], length, Option, None, Some, IfSome, refl, sym, ap, ◌∙◌, subst, ⊎_elim, inl, inr, arith}
+use Rattle.std.proofs.Common.{◌≡◌, ◌≢◌, ℕ, ◌<◌, ◌≤◌, ◌%◌, Bool, true, false, min, List, [], length, Option, None, Some, IfSome, refl, sym, ap, ◌∙◌, subst, ⊎_elim, inl, inr, arith}
 use Rattle.std.proofs.lemmas.Bool.{cases_eq, cases_lt, false≢true}
 use Rattle.std.proofs.lemmas.List.{get_or-set_same, get_or-set_other, get_or_past, length-set}
 use Rattle.tx_types.specs.declared.state.State.TheVariants.{Ready}
 use Rattle.object_grants.specs.Table.{slot, with_slot}
 use Rattle.object_grants.specs.Slot.{free_slot}
 use Rattle.object_grants.specs.declared.slot.Slot.{Slot}
-use Rattle.ready_maps.specs.Sched.{Sched, has, is_ready, pr, th}
+use Rattle.ready_maps.specs.Sched.{Sched}
 use Rattle.rv_core.specs.Hart.{HartState}
 use Rattle.kernel_state.specs.Kernel.{thread, with_thread, has_thread, is_thread, module_of, spot, with_spot, effective_priority, effective_threshold}
-use Rattle.kernel_state.specs.Laws.{AreAlike, EntryStays, IsRight, IsSoundFrom, SoundFrom, Suits, KeepsNumbers, EffectiveStays, EffectiveFits, with_both, OneThreadChanges, OneStateChanges, OneHartChanges, OneSlotChanges, OneSpotChanges, ThreadIsRight}
+use Rattle.kernel_state.specs.Laws.{AreAlike, EntryStays, IsRight, SoundFrom, EffectiveStays, EffectiveFits, with_both, OneThreadChanges, OneStateChanges, OneHartChanges, OneSlotChanges, OneSpotChanges, ThreadIsRight}
 use Rattle.kernel_state.specs.Scheduling.{ChangesOnly}
-use Rattle.kernel_state.specs.Sound.{IsSoundBut, IsSettled, IsThread, IsEntry, IsSpot, IsSlice, IsClean}
+use Rattle.kernel_state.specs.Sound.{IsSoundBut, IsThread, IsEntry, IsSpot, IsSlice, IsClean}
 use Rattle.kernel_state.specs.Spot.{blank_spot}
 use Rattle.kernel_state.specs.Thread.{blank_thread, is_waiting, is_state}
 use Rattle.kernel_state.specs.declared.kernel.Kernel.{Kernel}

@@ -1,18 +1,18 @@
 -- Readying, suspending, ending and resetting a thread keep a kernel sound.
-use Rattle.std.proofs.Common.{◌≡◌, ℕ, ◌<◌, ◌⊎◌, ◌==◌, Bool, true, false, List, [], refl, sym, ap, ◌∙◌, subst, ⊎_elim, inl, inr, arith}
+use Rattle.std.proofs.Common.{◌≡◌, ℕ, ◌<◌, ◌⊎◌, ◌==◌, Bool, true, false, List, [], refl, sym, ap, ◌∙◌, ⊎_elim, inl, inr, arith}
 use Rattle.std.proofs.lemmas.Bool.{cond_both, eqb-true, false≢true, false_from_ne_true, leb-true, or_cases}
-use Rattle.std.proofs.lemmas.List.{get_or-set_same, set-set}
+use Rattle.std.proofs.lemmas.List.{get_or-set_same}
 use Rattle.tx_types.specs.State.{state_number}
 use Rattle.tx_types.specs.declared.state.State.{State}
 use Rattle.tx_types.specs.declared.state.State.TheVariants.{Ready, Completed, Terminated, Suspended}
 use Rattle.ready_maps.specs.Moves.{readied, unreadied}
 use Rattle.ready_maps.specs.Sched.{Sched, is_ready}
 use Rattle.kernel_state.specs.Kernel.{thread, with_thread, is_thread}
-use Rattle.kernel_state.specs.Laws.{OneStateChanges, KeepsNumbers, with_both}
+use Rattle.kernel_state.specs.Laws.{OneStateChanges, with_both}
 use Rattle.kernel_state.specs.Scheduling.{ChangesOnly, ReadyChangesOne, UnreadyChangesOne}
-use Rattle.kernel_state.specs.Sound.{IsSound, IsSoundBut, IsSlice, IsThread}
+use Rattle.kernel_state.specs.Sound.{IsSound, IsSoundBut, IsSlice}
 use Rattle.kernel_state.specs.Thread.{blank_thread, is_over, is_state, is_waiting}
-use Rattle.kernel_state.specs.ThreadChanges.{made_ready, made_unready, with_fresh}
+use Rattle.kernel_state.specs.ThreadChanges.{with_fresh}
 use Rattle.kernel_state.specs.ThreadLaws.{ReadyKeepsSound, UnreadyKeepsSound, HeldKeepsSound, FreshKeepsSound, StartKeepsServing, SuspendKeepsServing, EndKeepsServing, ResetKeepsServing}
 use Rattle.kernel_state.specs.declared.kernel.Kernel.{Kernel}
 use Rattle.kernel_state.specs.declared.thread.Thread.{Thread}

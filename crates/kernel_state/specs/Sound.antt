@@ -11,7 +11,6 @@ use Rattle.kernel_state.specs.Thread.{is_state, is_waiting}
 use Rattle.kernel_state.specs.Kernel.{thread, is_thread, module_of, spot, effective_priority, effective_threshold}
 use Rattle.kernel_state.specs.declared.kernel.Kernel.{Kernel}
 use Rattle.kernel_state.specs.declared.spot.Spot.{Spot}
-use Rattle.kernel_state.specs.declared.thread.Thread.{Thread}
 
 -- a slot without an object has no name and no grants, and one that is free no owner either; no name has a zero byte
 abbrev pub IsClean : Slot → SlotState → Type 0

@@ -1,10 +1,9 @@
 -- A change of the kernel keeps the registers of the caller.
-use Rattle.std.proofs.Common.{◌≡◌, ◌≢◌, ℕ, ◌<◌, ◌≤◌, ◌==◌, ◌||◌, Bool, true, false, not, List, length, Option, None, Some, refl, sym, ap, ◌∙◌, subst, ⊎_elim, arith}
+use Rattle.std.proofs.Common.{◌≡◌, ◌≢◌, ℕ, ◌<◌, ◌≤◌, ◌==◌, ◌||◌, Bool, true, false, not, List, length, Option, None, Some, refl, sym, ap, ◌∙◌, subst, ⊎_elim}
 use Rattle.std.specs.List.{slice_index_or}
 use Rattle.std.proofs.lemmas.Bool.{and_parts, cases_eq, cases_lt, cond_both, eqb-true, false≢true, not-false}
 use Rattle.std.proofs.lemmas.List.{get_or-set_same, get_or-set_other, set_past}
 use Rattle.tx_types.specs.Reference.{slot_of}
-use Rattle.tx_types.specs.State.{state_number}
 use Rattle.tx_types.specs.declared.kind.Kind.TheVariants.{Thread as ThreadKind}
 use Rattle.tx_types.specs.declared.state.State.{State}
 use Rattle.tx_types.specs.declared.state.State.TheVariants.{Ready, Suspended}
@@ -13,7 +12,7 @@ use Rattle.object_grants.specs.Table.{names, named as names_slot, slot}
 use Rattle.object_grants.specs.declared.slot.SlotState.TheVariants.{Empty, Live}
 use Rattle.region_guard.specs.Memory.{Memory}
 use Rattle.kernel_state.specs.Change.{Change, quiet}
-use Rattle.kernel_state.specs.Kernel.{thread, with_thread, is_thread, module_of, placed}
+use Rattle.kernel_state.specs.Kernel.{thread, with_thread, module_of, placed}
 use Rattle.kernel_state.specs.Row.{KeepsCaller}
 use Rattle.kernel_state.specs.Outcome.{refused}
 use Rattle.kernel_state.specs.Tests.{reserved}

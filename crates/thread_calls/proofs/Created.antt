@@ -2,7 +2,7 @@
 use Rattle.std.proofs.Common.{◌≡◌, ℕ, ◌==◌, List}
 use Rattle.std.proofs.lemmas.Bool.{cond-true, eq-eqb}
 use Rattle.kernel_state.specs.declared.kernel.Kernel.{Kernel}
-use Rattle.kernel_state.specs.Change.{Change, quiet}
+use Rattle.kernel_state.specs.Change.{quiet}
 use Rattle.kernel_state.specs.Kernel.{placed}
 use Rattle.kernel_state.specs.ThreadChanges.{started}
 use Rattle.region_guard.specs.Memory.{Memory}

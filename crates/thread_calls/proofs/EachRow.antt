@@ -1,5 +1,5 @@
 -- Each row writes its result alone, refuses with no change, and keeps the registers of the caller.
-use Rattle.std.proofs.Common.{◌≡◌, ℕ, ◌==◌, false, refl, not, nat_le, nat_lt, List, [], ◌∷◌, Some, None, position, All, lit<}
+use Rattle.std.proofs.Common.{◌≡◌, ℕ, ◌==◌, false, refl, not, nat_le, nat_lt, List, [], ◌∷◌, position, All, lit<}
 use Rattle.std.proofs.lemmas.Bool.{cond_both}
 use Rattle.std.proofs.lemmas.List.Elements.{All-cons, All-nil}
 use Rattle.tx_types.specs.Code.{success, ptr_error, option_error, no_instance, no_memory, thread_error, priority_error, delete_error, resume_error, suspend_error, thresh_error, suspend_lifted, not_done}
@@ -11,19 +11,17 @@ use Rattle.call_arguments.specs.Names.{name_at}
 use Rattle.object_grants.specs.Slot.{is_usable, is_own_empty, has_name}
 use Rattle.object_grants.specs.Table.{ref_of, named as names_slot, after_deallocate}
 use Rattle.ready_maps.specs.Moves.{yielded}
-use Rattle.region_guard.specs.Memory.{Memory}
 use Rattle.region_guard.specs.declared.region.Access.TheVariants.{Load, Store}
 use Rattle.kernel_state.specs.Change.{quiet}
 use Rattle.kernel_state.specs.Kernel.{thread, module_of, removed_thread}
 use Rattle.kernel_state.specs.Outcome.{refused}
-use Rattle.kernel_state.specs.Range.{Range, allowed, range}
+use Rattle.kernel_state.specs.Range.{allowed, range}
 use Rattle.kernel_state.specs.Registers.{arg}
 use Rattle.kernel_state.specs.Row.{Row, IsRow, IsNoRefusal, AnsweredIsKept, ChangedIsKept, DoneIsKept, WrittenIsKept, UnlessIsKept, FoundIsKept, GivenIsKept, EitherIsKept}
 use Rattle.kernel_state.specs.Tests.{named, reserved, owner_refusal, caller_refusal}
 use Rattle.kernel_state.specs.Thread.{is_over, is_state}
 use Rattle.kernel_state.specs.ThreadChanges.{started, suspended, with_held, ended, reset}
 use Rattle.kernel_state.specs.declared.answer.Answer.TheVariants.{Code, Value, Ended}
-use Rattle.kernel_state.specs.declared.kernel.Kernel.{Kernel}
 use Rattle.thread_calls.specs.Create.{block_at, block_refusal, created}
 use Rattle.thread_calls.specs.Numbers.{with_user_threshold, with_user_priority, with_slice, thread_info}
 use Rattle.thread_calls.specs.ObjectRows.{allocation, granting, object_allocate_row, object_deallocate_row, object_pointer_get_row}

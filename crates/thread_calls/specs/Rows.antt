@@ -2,7 +2,7 @@
 use Rattle.std.specs.Prelude.{ℕ, List, [], ◌∷◌, All}
 use Rattle.region_guard.specs.Memory.{Memory}
 use Rattle.kernel_state.specs.Outcome.{Outcome}
-use Rattle.kernel_state.specs.Range.{Range, range}
+use Rattle.kernel_state.specs.Range.{range}
 use Rattle.kernel_state.specs.Registers.{arg}
 use Rattle.kernel_state.specs.Row.{Row, IsRow}
 use Rattle.kernel_state.specs.declared.kernel.Kernel.{Kernel}

@@ -1,4 +1,3 @@
-use Rattle.std.proofs.Common.{refl}
 use Rattle.kernel_state.proofs.thread_changes.reset_thread.Goals as goal
 
 pub returns-clause-serves : goal.returns-clause-serves

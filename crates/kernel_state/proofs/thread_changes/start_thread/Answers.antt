@@ -1,4 +1,4 @@
-use Rattle.std.proofs.Common.{◌≡◌, false, ap, subst, sym, ◌∙◌}
+use Rattle.std.proofs.Common.{◌≡◌, ap, subst, sym, ◌∙◌}
 use Rattle.kernel_state.specs.Serves.{Serves}
 use Rattle.kernel_state.specs.ThreadChanges.{made_ready, started}
 use Rattle.kernel_state.proofs.thread_changes.start_thread.Goals as goal

@@ -1,4 +1,4 @@
-use Rattle.thread_calls.proofs.EachRow.{Parts, each_row_is_one}
+use Rattle.thread_calls.proofs.EachRow.{each_row_is_one}
 use Rattle.thread_calls.proofs.laws.each_row_is_one.Goals as goal
 
 pub returns : goal.returns
