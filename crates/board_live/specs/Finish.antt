@@ -18,7 +18,7 @@ use Rattle.board_live.specs.declared.finish.FinishErr.TheVariants.{WriteFault, N
 
 -- what a board reaches by a history
 abbrev pub reached : Origin → List Entry → World
-reached o h = run o h
+reached o h = (run o h).now
 
 -- the text of a run: the lines of its history, and then the report of what was reached
 abbrev pub run_text : Origin → List Entry → List ℕ
