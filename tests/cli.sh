@@ -624,6 +624,60 @@ else
     skipped 'the images in assembly are their sources: there is no riscv64-unknown-elf-as'
 fi
 
+# ---- Live runs: the log that each printed is replayed to the same text
+
+# lives BOARD: it is run, its text is left in live, and the log in that text is replayed to the same text
+lives() {
+    "$txboard" run "$1" >"$work/live" || return
+    sed '/^report$/,$d' "$work/live" >"$work/log"
+    "$txboard" replay "$1" "$work/log" | cmp - "$work/live"
+}
+# live NAME STEPS DEVICE..: a board with p1, which faults at its second step, and with devices whose action finds
+# no target; DEVICE is a name, a bar and the device's other lines
+live() {
+    local name=$1 device
+    printf 'ram = 1048576\nsteps = %s\n[[module]]\nname = "one"\nimage = "p1.img"\nstart = true\n' "$2" >"$boards/live.toml"
+    for device in "${@:3}"; do
+        printf '[[device]]\nname = "%s"\naction = "resume"\ntarget = "none"\n%b\n' "${device%%|*}" "${device#*|}"
+    done >>"$boards/live.toml"
+    expect "live: $name" 0 '' from "$boards" lives live.toml
+}
+# live_report STEPS IRQS DEVICE..: the report after at least two steps; DEVICE is the rest of its line
+live_report() {
+    local device
+    printf 'report\nevents steps %s irqs %s ticks 0 clock 0\nrunning -\nheld\nready\n' "$1" "$2"
+    printf 'waits begun 0 satisfied 0 timedout 0 aborted 0 deleted 0 gone 0\n'
+    printf 'module 0 one state 3 queued 0 dropped 0\nfault 0 thread 0 cause 1 pc 80000084\n'
+    for device in "${@:3}"; do printf 'device %s\n' "$device"; done
+    printf 'end'
+}
+reported() { sed -n '/^report$/,$p' "$work/live"; }
+
+live 'no device' 3
+expect 'live: no device, the text' 0 "$(printf 'S 3\n'; live_report 3 0)" cat "$work/live"
+live 'no word' 3 'a|script = []' 'b|script = []'
+expect 'live: no word, the text' 0 "$(printf 'S 3\n'; live_report 3 0 '0 a taken 0 last 00' '1 b taken 0 last 00')" \
+    cat "$work/live"
+live 'more words than the inbox holds' 100 'a|script = [5]\nrepeat = 300' 'b|script = [1, 2, 3]'
+expect 'live: the words of a device' 0 "$(printf 'I 0 00000005\n%.0s' {1..300})" grep '^I 0 ' "$work/live"
+expect 'live: those of another, in order' 0 "$(printf 'I 1 0000000%s\n' 1 2 3)" grep '^I 1 ' "$work/live"
+expect 'live: how many were taken' 0 "$(live_report 100 303 '0 a taken 300 last 0e' '1 b taken 3 last 0e')" reported
+
+# it reads and refuses as a replay does, but for the log
+expect 'live: no such board' 2 '' "$txboard" run "$work/none.toml"
+modules 100 none.img >"$boards/live.toml"
+expect 'live: the board comes first' 3 'refused board: ram' from "$boards" "$txboard" run live.toml
+modules 4096 none.img >"$boards/live.toml"
+expect 'live: then the images' 2 '' from "$boards" "$txboard" run live.toml
+modules 4096 major.img data.img data.img data.img >"$boards/live.toml"
+expect 'live: then the preambles' 3 'refused image 0: BadMajor 00000007' from "$boards" "$txboard" run live.toml
+modules 4096 data.img data.img data.img >"$boards/live.toml"
+expect 'live: then room' 3 'refused room 2' from "$boards" "$txboard" run live.toml
+if [ -w /dev/full ]; then
+    expect 'a full device: a live run' 4 '' from "$top" to_full run examples/two.board.toml
+fi
+expect 'a closed output: a live run' 4 '' from "$top" to_none run examples/two.board.toml
+
 # ---- Words
 
 usage='usage: txboard hart IMAGE N | check BOARD | replay BOARD LOG | run BOARD | gen SEED'
@@ -644,7 +698,9 @@ is_usage check "$top/examples/one.board.toml" 1
 is_usage Check "$top/examples/one.board.toml"
 is_usage replay board.toml
 is_usage replay board.toml log log
-is_usage run board.toml
+is_usage run
+is_usage run board.toml log
+is_usage Run board.toml
 is_usage gen 1
 for number in '' ' 1' '1 ' 01 00 +1 -1 -0 1x 0x1 1.0 1e3 100000001 4294967297 18446744073709551617 $'1\n' '１'; do
     is_usage hart "$p1" "$number"

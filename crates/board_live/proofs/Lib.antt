@@ -1,4 +1,6 @@
 mod Begun
 mod Ending
 mod Finished
+mod Living
+mod Sessions
 mod Texts

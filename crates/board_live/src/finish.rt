@@ -28,7 +28,7 @@ use tx_types::{Line, NoMemory};
 
 /// Why a run has no whole text: a write failed, or memory for the report ran out.
 #[derive(Clone, Copy)]
-pub enum FinishErr {
+pub(crate) enum FinishErr {
     WriteFault,
     NoMemory,
 }
@@ -101,7 +101,7 @@ fn write_end<S: Sink>(alloc: Global, machine: &Machine, sink: &mut S) -> Result<
 /// `Ok`: what was got before and what was written here are the text of one run, with all words and
 /// all steps. `WriteFault`: a write failed in this call, and a prefix of that rest was written.
 /// `NoMemory`: the rest of the log was written, and no report.
-pub fn finish<'a, R: Wait, O: Session, S: Sink>(
+pub(crate) fn finish<'a, R: Wait, O: Session, S: Sink>(
     rt: &R,
     alloc: Global,
     core: Core<'a, O>,

@@ -12,7 +12,7 @@ use log_lane::GetPass;
 use std::sync::Wait;
 
 /// Ends the run of a core without a word more. What was got from its lane is a run so far.
-pub fn give_up<'a, R: Wait, O: Session>(
+pub(crate) fn give_up<'a, R: Wait, O: Session>(
     rt: &R,
     core: Core<'a, O>,
     devs: Vec<DevPass>,

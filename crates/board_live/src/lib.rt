@@ -1,12 +1,13 @@
-//! How a board that ran live ends: the steps that are left, the rest of the log, and the report.
+//! `run`: a board live, with its devices on threads, the log as it happens and the report at the end.
 //!
-//! The devices have been at work before, and their words were taken and written; here none is
-//! started, and no word is waited for.
+//! What was printed says by itself which run it was: a history, which `replay` plays to the same text.
+//! Words of other commands are refused here as wrong words.
 #![tactic(auto)]
 
 mod apart;
 mod finish;
 mod give_up;
+mod live;
+mod session;
 
-pub use finish::{FinishErr, finish};
-pub use give_up::give_up;
+pub use live::board_live;

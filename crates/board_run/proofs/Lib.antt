@@ -1,5 +1,5 @@
+pub mod Alike
 pub mod Answering
-pub mod Booting
 pub mod ElementTexts
 pub mod Loading
 pub mod LyingAlone

@@ -2,7 +2,7 @@
 use Rattle.std.specs.Prelude.{◌≡◌, Option, None, Some, Result, Ok, Err, IfOk}
 use Rattle.board_core.specs.Boot.{places}
 use Rattle.board_run.specs.Check.{checked}
-use Rattle.board_run.specs.Replay.{booted_from}
+use Rattle.board_run.specs.Booting.{booted_from}
 use Rattle.board_run.specs.declared.boards.Loaded.{Loaded}
 use Rattle.board_run.specs.declared.refusal.Stop.{Stop}
 

@@ -1,6 +1,8 @@
 pub mod Alone
 pub mod Answer
 pub mod Boards
+pub mod Booting
+pub mod Call
 pub mod Check
 pub mod Command
 pub mod Due

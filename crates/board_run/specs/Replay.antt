@@ -1,7 +1,6 @@
 -- What `replay` makes of a board and a log, and its text.
 use Rattle.std.specs.Prelude.{ℕ, List, ◌++◌, length, Option, Result, Ok}
 use Rattle.std.specs.List.{flat_map}
-use Rattle.board_core.specs.Boot.{boot_refusal}
 use Rattle.board_core.specs.Report.{report_of}
 use Rattle.board_core.specs.Run.{Origin, run}
 use Rattle.board_report.specs.Report.{report_lines}
@@ -10,8 +9,9 @@ use Rattle.event_log.specs.LogIn.{log_in}
 use Rattle.event_log.specs.Text.{text_of}
 use Rattle.event_log.specs.declared.entry.Entry.{Entry}
 use Rattle.board_run.specs.Boards.{loaded_at}
+use Rattle.board_run.specs.Booting.{booted_from}
 use Rattle.board_run.specs.Held.{file_at}
-use Rattle.board_run.specs.Refused.{refused_boot, refused_log}
+use Rattle.board_run.specs.Refused.{refused_log}
 use Rattle.board_run.specs.Step.{◌>>=◌}
 use Rattle.board_run.specs.declared.boards.Loaded.{Loaded}
 use Rattle.board_run.specs.declared.refusal.Refusal.TheVariants.{LogTooLarge}
@@ -23,10 +23,6 @@ unfoldable pub log_at : (devices : ℕ) → List ℕ → (List ℕ → Option (L
 log_at devices name at = do
   bytes ← file_at 4194304 LogTooLarge name at
   refused_log (log_in devices bytes)
-
--- where a board with its images begins
-unfoldable pub booted_from : Loaded → Result Origin Stop
-booted_from l = refused_boot (record { board = l.board; images = l.images }) (boot_refusal l.board l.images)
 
 -- a history, and the report of what a board reaches by it
 pub record Session : Type 0 where

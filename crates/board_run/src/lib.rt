@@ -5,8 +5,10 @@
 
 mod alone;
 mod boards;
+mod booting;
 mod check;
 mod command;
+mod ending;
 mod hart;
 mod images;
 pub mod laws;
@@ -20,7 +22,11 @@ mod still;
 pub use board_io::{
     Files, Gate, MemFiles, MemSink, OpenGate, ReadErr, Sink, Status, SureSink, WriteErr,
 };
+pub use boards::{Loaded, load_board};
+pub use booting::{Booted, boot, boot_board};
 pub use command::{Command, command_of};
-pub use refusal::Refusal;
+pub use ending::{end, end_stopped, end_written};
+pub use images::Images;
+pub use refusal::{Refusal, Stop};
 pub use replay::write_report;
-pub use still::board_still;
+pub use still::{board_still, usage};

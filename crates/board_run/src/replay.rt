@@ -15,14 +15,15 @@ ghost use Rattle.board_run.specs.Boards.{IsLoaded};
 ghost use Rattle.board_io.specs.Faults.{Rose};
 ghost use Rattle.board_run.specs.Reading.{Gives, GivesHere};
 ghost use Rattle.board_run.specs.Refused.{refused_log};
-ghost use Rattle.board_run.specs.Replay.{log_at, booted_from, session_of, session_on, session_at, session, report_text, session_text};
+ghost use Rattle.board_run.specs.Replay.{log_at, session_of, session_on, session_at, session, report_text, session_text};
 ghost use Rattle.board_io.specs.Sink.{Wrote};
 
 use crate::boards::{Loaded, load_board};
+use crate::booting::boot;
 use crate::reading::file_of;
 use crate::refusal::{Refusal, Stop};
 use board_core::laws::a_run_is_its_events;
-use board_core::{BootErr, Machine};
+use board_core::Machine;
 use board_io::{Files, Sink, WriteErr};
 use board_report::{lines, report_line};
 use board_values::Report;
@@ -68,23 +69,6 @@ fn log_of<F: Files>(alloc: Global, name: &str, devices: u8, files: &mut F) -> Re
     log_in(alloc, &bytes, devices)
 }
 
-/// The booted board, on which nothing happened yet.
-#[tactic(auto, unfolding(crate::specs::Replay::booted_from))]
-fn boot(alloc: Global, loaded: &Loaded) -> Result<Machine, Stop>
-    requires { IsLoaded loaded.now }
-    ensures origin { GivesHere (λ m. m.origin) (booted_from loaded.now) result }
-    ensures board { IfOk result (λ m. m.origin.board ≡ loaded.now.board) }
-    ensures fresh { IfOk result (λ m. m.history ≡ []) }
-    ensures room { IfOk result (λ m. m.irqs ≡ 65536) }
-{
-    match Machine::boot(alloc, &loaded.board, loaded.images.as_slice(), MOST_IRQS) {
-        Ok(machine) => Ok(machine),
-        Err(BootErr::NoMemory) => Err(Stop::NoMemory),
-        Err(BootErr::Image(number, err)) => Err(Stop::Refused(Refusal::Image(number, err))),
-        Err(BootErr::NoRoom(number)) => Err(Stop::Refused(Refusal::Room(number))),
-    }
-}
-
 /// The report of what a booted board reaches by a history.
 fn report_after(alloc: Global, mut machine: Machine, history: &History) -> Result<Report, NoMemory>
     requires fresh { machine.history ≡ [] }
@@ -106,7 +90,7 @@ fn session_of(alloc: Global, loaded: &Loaded, history: History) -> Result<Replay
     ensures session { GivesHere session (session_of loaded.now history.entries) result }
     ensures printable { IfOk result (λ r. IsPrintable r.report) }
 {
-    let machine = boot(alloc, loaded)?;
+    let machine = boot(alloc, loaded, MOST_IRQS)?;
     let report = report_after(alloc, machine, &history)?;
     Ok(Replayed { history, report })
 }

@@ -3,9 +3,10 @@ use Rattle.std.proofs.lemmas.Bool.{cond_both}
 use Rattle.event_log.specs.LogIn.{log_in}
 use Rattle.event_log.specs.declared.entry.Entry.{Entry}
 use Rattle.board_run.specs.Boards.{loaded_at}
+use Rattle.board_run.specs.Booting.{booted_from}
 use Rattle.board_run.specs.Held.{held_file, within, file_at}
 use Rattle.board_run.specs.Refused.{refused_log}
-use Rattle.board_run.specs.Replay.{Session, log_at, booted_from, session_of, session_on, session_at}
+use Rattle.board_run.specs.Replay.{Session, log_at, session_of, session_on, session_at}
 use Rattle.board_run.specs.Step.{◌>>=◌}
 use Rattle.board_run.specs.declared.boards.Loaded.{Loaded}
 use Rattle.board_run.specs.declared.refusal.Refusal.{Refusal}

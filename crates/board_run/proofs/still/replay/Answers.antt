@@ -1,8 +1,12 @@
-use Rattle.board_run.proofs.Answering.{done_ends, written_answers}
+use Rattle.board_run.specs.Call.{call}
 use Rattle.board_run.specs.Replay.{session, session_at, session_text}
+use Rattle.board_run.proofs.Answering.{written_ended}
 use Rattle.board_run.proofs.still.replay.Goals as goal
 
-pub returns-in-Ok-clause-answers : goal.returns-in-Ok-clause-answers
-returns-in-Ok-clause-answers g c =
-    let ends = done_ends _ _ _ _ _ c.write_session-written.result c.done.result c.write_session-written.ensures.wrote c.done.ensures in
-    written_answers (session_at c.args.board.now c.args.log.now) session_text (g.F.Files.held c.args.files.now) _ _ _ _ (session c.in-Ok.replayed) _ c.in-Ok.ensures.session ends
+pub returns-in-Ok-clause-ended : goal.returns-in-Ok-clause-ended
+returns-in-Ok-clause-ended g c =
+    let it = call g.F.Files.held g.F.Files.faults c.args.files.now c.replay_log.new.files g.S.Sink.written g.S.Sink.faults c.args.sink.now c.write_session.new.sink in
+    let read = c.in-Ok.ensures in
+    let written = c.write_session.ensures in
+    written_ended (session_at c.args.board.now c.args.log.now) session_text it (session c.in-Ok.replayed) c.write_session.result c.end_written.result
+    (record { held = read.held; read = read.counted; written = written.counted }) read.session written.wrote c.end_written.ensures

@@ -16,7 +16,7 @@ use Rattle.board_run.specs.Check.{checked, want_in}
 use Rattle.board_run.specs.Laws.{LiesAlike, StopsAlike, stopped}
 use Rattle.board_run.specs.Placing.{places_in}
 use Rattle.board_run.specs.Refused.{refused_boot, refused_image, refused_room}
-use Rattle.board_run.specs.Replay.{booted_from}
+use Rattle.board_run.specs.Booting.{booted_from}
 use Rattle.board_run.specs.Step.{◌>>=◌, each}
 use Rattle.board_run.specs.declared.boards.Loaded.{Loaded}
 use Rattle.board_run.specs.declared.check.Checked.{Checked}
