@@ -1,4 +1,6 @@
 //! What is kept of devices: how often each was heard, and what came of it.
+//!
+//! These are plain values; what an action does to the kernel and to memory is elsewhere.
 ghost use Rattle.std.specs.Prelude.{◌≡◌, ◌<◌, length, IfOk, replicate};
 ghost use Rattle.board_core.specs.Devices.{device_at, fresh_device, noted};
 

@@ -1,4 +1,6 @@
 //! The end of a run in which a write failed: nothing more is written.
+//!
+//! No step is made and no report: what was got from the lane is all that the log can have.
 ghost use Rattle.std.specs.Prelude.{◌≡◌, true, length};
 ghost use Rattle.irq_inbox.specs.Seen.{AreAllOf};
 ghost use Rattle.board_serve.specs.Raised.{HaveSentOf};

@@ -1,4 +1,6 @@
 //! The top call of `run`. It reads and refuses as `replay` does, but for the log, which it makes.
+//!
+//! The session itself, from the first device to the report, has a file of its own.
 ghost use Rattle.std.specs.Prelude.{◌≡◌, IfSome, Some, map, string_bytes};
 ghost use Rattle.std.specs.Option.{option_map};
 ghost use Rattle.board_run.specs.Call.{Ended, call};

@@ -1,4 +1,6 @@
 //! A board that was read is booted, with room for a number of interrupts.
+//!
+//! No event is made here, and nothing is written.
 ghost use Rattle.std.specs.Prelude.{◌≡◌, ◌≤◌, [], IfOk};
 ghost use Rattle.std.specs.Option.{option_map};
 ghost use Rattle.board_file.specs.Board.{script_words};

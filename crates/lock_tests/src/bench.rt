@@ -1,4 +1,6 @@
 //! A core on the bench: its devices raise, it makes turns and steps, and its lane is emptied.
+//!
+//! All of it is on one thread, and nothing here says what is to come of a move.
 ghost use Rattle.std.specs.Prelude.{◌≡◌, true};
 
 use board_values::DevNo;

@@ -1,4 +1,6 @@
 //! A booted board of one module and two devices, with an inbox and a lane of its own.
+//!
+//! No event is made here.
 ghost use Rattle.std.specs.Prelude.{◌≡◌, ◌+◌, ◌*◌, true, [], length, IfOk, IfSome};
 ghost use Rattle.board_file.specs.Board.{script_words};
 ghost use Rattle.board_file.specs.Rules.{IsBoard};

@@ -1,4 +1,6 @@
 //! The resumption of a thread, by a service or by a device.
+//!
+//! Whether the thread may be named was asked before; no byte of memory changes.
 ghost use Rattle.std.specs.Prelude.{◌≡◌, true};
 ghost use Rattle.kernel_state.specs.Kernel.{is_thread};
 ghost use Rattle.kernel_state.specs.Serves.{Serves};

@@ -1,4 +1,6 @@
 //! The call of each service of this crate, by its number.
+//!
+//! Registers aren't touched here: arguments are given, and the answer is given back.
 ghost use Rattle.std.specs.Prelude.{◌≡◌, Some};
 ghost use Rattle.std.specs.Option.{option_map};
 ghost use Rattle.kernel_state.specs.Row.{called, row_of};
