@@ -2,6 +2,7 @@
 use Rattle.std.specs.Prelude.{◌≡◌, ℕ, ◌+◌, ◌%◌, ◌^◌, ◌<◌, Bool, true, replicate, slice_set, if◌then◌else◌}
 use Rattle.module_preamble.specs.Words.{has_callback}
 use Rattle.module_preamble.specs.declared.words.Preamble.{Preamble}
+use Rattle.rv_core.specs.Registers.{sp, gp, a0}
 use Rattle.rv_core.specs.Hart.{HartState}
 use Rattle.module_loader.specs.Want.{data_and_stack, callback_bytes, want_of}
 use Rattle.module_loader.specs.declared.placement.Placed.{Placed}
@@ -11,12 +12,13 @@ use Rattle.module_loader.specs.declared.placement.Placed.{Placed}
 abbrev pub stack_top : Preamble → Placed → Bool → ℕ
 stack_top p at second = at.data_base + data_and_stack p + (if second then callback_bytes p else 0)
 
--- pc at the shell entry; sp (x2) the top of the thread's stack, gp (x3) the data base, a0 (x10) the
+-- pc at the shell entry; sp the top of the thread's stack, gp the data base, a0 the
 -- address of the entry that the shell is to call, all else 0
 abbrev pub opening : Preamble → Placed → ℕ → Bool → HartState
 opening p at entry second = record {
   pc = at.code_base + p.shell;
-  x = slice_set (slice_set (slice_set (replicate 32 0) 2 (stack_top p at second)) 3 at.data_base) 10 (at.code_base + entry);
+  x = slice_set (slice_set (slice_set (replicate 32 0) sp (stack_top p at second)) gp at.data_base)
+      a0 (at.code_base + entry);
 }
 
 -- the module lies at its place as it wants to

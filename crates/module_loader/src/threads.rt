@@ -11,15 +11,7 @@ use crate::Placed;
 use crate::want::part;
 use module_preamble::Preamble;
 use rv_core::Hart;
-
-/// The number of the stack pointer's register.
-const SP: usize = 2;
-
-/// The number of the global pointer's register.
-const GP: usize = 3;
-
-/// The number of the register of the first argument.
-const A0: usize = 10;
+use rv_core::registers::{A0, GP, SP};
 
 /// The address right above the stack of the start thread, or of the second, the callback thread.
 fn stack_top(p: &Preamble, at: Placed, second: bool) -> u32
@@ -45,9 +37,9 @@ pub fn opening(p: &Preamble, at: Placed, entry: u32, second: bool) -> Hart
     ensures { result ≡ opening p.now at entry second }
 {
     let mut x = [0; 32];
-    x[SP] = stack_top(p, at, second);
-    x[GP] = at.data_base;
-    x[A0] = at.code_base + entry;
+    x[SP as usize] = stack_top(p, at, second);
+    x[GP as usize] = at.data_base;
+    x[A0 as usize] = at.code_base + entry;
     Hart {
         pc: at.code_base + p.shell,
         x,

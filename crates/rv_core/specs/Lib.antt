@@ -4,3 +4,4 @@ pub mod Execute
 pub mod Hart
 pub mod Memory
 pub mod Operation
+pub mod Registers

@@ -9,6 +9,7 @@ mod bus;
 mod execute;
 mod hart;
 mod operation;
+pub mod registers;
 
 pub use bus::{Bus, Cause};
 pub use execute::{Out, step};
