@@ -18,4 +18,4 @@ pub use board::{Action, Board, BoardDevice, BoardModule, BoardShare, BoardShow};
 pub use lists::{BoardDevices, BoardModules, BoardShares, BoardShows, Script};
 pub use read::read_board;
 pub use refusal::BoardErr;
-pub use text::{Path, PathText};
+pub use text::{Path, PathText, Text};

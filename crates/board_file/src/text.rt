@@ -1,70 +1,36 @@
 //! Text of the board file, which contracts see as its bytes.
 //!
-//! There is a type for the path of an image and one for the path of a field, so that one is never
-//! taken for the other. A text is given back as it came; nothing here looks into it.
+//! A text is given back as it came; nothing here looks into it.
 use std::marker::Model;
 
-/// The path of an image file, as the board file gives it.
-#[derive(Clone, Drop)]
-pub struct PathText {
+/// A text of the board file.
+#[derive(Clone, Debug, Drop)]
+pub struct Text {
     text: String,
 }
 
-impl Model for PathText {
-    ghost use Rattle.std.specs.Prelude.{ℕ, List, string_bytes};
-
-    ghost Value = { List ℕ };
-
-    ghost view = { λ p. string_bytes p.text };
-}
-
-impl PathText {
-    ghost use Rattle.std.specs.Prelude.{◌≡◌, string_bytes};
-
-    /// The path of a text.
-    pub fn new(text: String) -> PathText
-        ensures { result ≡ string_bytes text }
-    {
-        PathText { text }
-    }
-
-    /// Its text.
-    pub fn as_str(&self) -> &str
-        ensures { result.now ≡ self.now }
-    {
-        self.text.as_str()
-    }
-
-    /// The `String` of its text.
-    pub fn into_string(self) -> String
-        ensures { string_bytes result ≡ self }
-    {
-        self.text
-    }
-}
+/// The path of an image file, as the board file gives it.
+pub type PathText = Text;
 
 /// The path of a field of the board file, as `module[2].name`.
-#[derive(Debug, Drop)]
-pub struct Path {
-    text: String,
-}
+pub type Path = Text;
 
-impl Model for Path {
+impl Model for Text {
     ghost use Rattle.std.specs.Prelude.{ℕ, List, string_bytes};
 
     ghost Value = { List ℕ };
 
-    ghost view = { λ p. string_bytes p.text };
+    ghost view = { λ t. string_bytes t.text };
 }
 
-impl Path {
+impl Text {
     ghost use Rattle.std.specs.Prelude.{◌≡◌, string_bytes};
 
-    /// The path of a text.
-    pub fn new(text: String) -> Path
+    /// The text of a `String`.
+    pub fn new(text: String) -> Text
         ensures { result ≡ string_bytes text }
     {
-        Path { text }
+        Text { text }
     }
 
     /// Its text.
