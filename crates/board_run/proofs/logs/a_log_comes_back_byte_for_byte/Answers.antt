@@ -6,7 +6,7 @@ use Rattle.board_run.specs.Boards.{loaded_at}
 use Rattle.board_run.specs.Booting.{booted_from}
 use Rattle.board_run.specs.Held.{held_file, within, file_at}
 use Rattle.board_run.specs.Refused.{refused_log}
-use Rattle.board_run.specs.Replay.{Session, log_at, session_of, session_on, session_at}
+use Rattle.board_run.specs.Replay.{Printed, log_at, session_of, session_on, session_at}
 use Rattle.board_run.specs.Step.{◌>>=◌}
 use Rattle.board_run.specs.declared.boards.Loaded.{Loaded}
 use Rattle.board_run.specs.declared.refusal.Refusal.{Refusal}
@@ -46,26 +46,26 @@ log-read devices log at es h =
     (read.0, file-bytes 4194304 LogTooLarge log at read.0 read.1, log-said (log_in devices read.0) es read.2)
 
 -- the history of a session that was given
-abbrev history_in : Result Session Stop → List Entry
+abbrev history_in : Result Printed Stop → List Entry
 history_in (Ok s) = s.history
 history_in (Err stop) = []
 
 -- a session has the history that was made
-history-made : (l : Loaded) (es : List Entry) (s : Session) → session_of l es ≡ Ok s → es ≡ s.history
+history-made : (l : Loaded) (es : List Entry) (s : Printed) → session_of l es ≡ Ok s → es ≡ s.history
 unfolding session_of
 history-made l es s h =
     let made = both-gave (booted_from l) _ s h in
     ap history_in made.2
 
 -- that of the log
-session-read : (l : Loaded) (log : List ℕ) (at : List ℕ → Option (List ℕ)) (s : Session)
+session-read : (l : Loaded) (log : List ℕ) (at : List ℕ → Option (List ℕ)) (s : Printed)
     → session_on l log at ≡ Ok s → log_at (length l.board.devices) log at ≡ Ok s.history
 unfolding session_on
 session-read l log at s h =
     let read = both-gave (log_at (length l.board.devices) log at) (session_of l) s h in
     read.1 ∙ ap (λ es. Ok es) (history-made l read.0 s read.2)
 
-session-loaded : (board log : List ℕ) (at : List ℕ → Option (List ℕ)) (s : Session)
+session-loaded : (board log : List ℕ) (at : List ℕ → Option (List ℕ)) (s : Printed)
     → session_at board log at ≡ Ok s → (l : Loaded) × (session_on l log at ≡ Ok s)
 unfolding session_at
 session-loaded board log at s h =
