@@ -1,5 +1,5 @@
 -- What an event changes in memory lies in its frame.
-use Rattle.std.proofs.Common.{◌≡◌, ℕ, ◌-◌, ◌<◌, true, List, [], ◌∷◌, length, Option, None, Some, position, refl, sym, ap, subst}
+use Rattle.std.proofs.Common.{◌≡◌, ℕ, ◌-◌, ◌<◌, true, List, [], ◌∷◌, Option, None, Some, position, refl, sym, ap, subst}
 use Rattle.std.proofs.lemmas.Bool.{cond_both}
 use Rattle.std.proofs.lemmas.List.Elements.{All-head}
 use Rattle.machine_words.specs.Number.{low_bytes}
@@ -8,7 +8,7 @@ use Rattle.tx_types.specs.declared.kind.Kind.TheVariants.{Thread as ThreadKind}
 use Rattle.flat_ram.specs.Laws.{IsOutside, LengthStays, WidthIsLength}
 use Rattle.object_grants.specs.Slot.{has_name}
 use Rattle.region_guard.specs.Laws.{BytesOutsideStay, UsedIsInRam}
-use Rattle.region_guard.specs.Memory.{Memory, IsSound as IsSoundMemory, may, byte, with_number, ram_base}
+use Rattle.region_guard.specs.Memory.{Memory, IsSound as IsSoundMemory, may, with_number, ram_base}
 use Rattle.region_guard.specs.declared.region.Access.TheVariants.{Store}
 use Rattle.rv_core.specs.Execute.{Effect, Completes, Stores, Calls, Faults}
 use Rattle.rv_core.specs.Hart.{HartState}

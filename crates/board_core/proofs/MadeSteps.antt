@@ -23,7 +23,7 @@ use Rattle.board_core.specs.Bus.{seen}
 use Rattle.board_core.specs.Laws.{ImagesStay, IsWorld, OwnersStay, RegionsStay}
 use Rattle.board_core.specs.Machine.{shown}
 use Rattle.board_core.specs.After.{after}
-use Rattle.board_core.specs.Step.{after_effect, next_effect, ran_on, with_hart}
+use Rattle.board_core.specs.Step.{after_effect, next_effect, ran_on}
 use Rattle.board_core.specs.World.{World}
 use Rattle.board_core.specs.declared.devices.Device.{Device}
 use Rattle.board_core.specs.declared.parts.Parts.{Parts}

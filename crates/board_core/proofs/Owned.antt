@@ -19,7 +19,6 @@ use Rattle.module_manager.specs.declared.modules.ModuleState.TheVariants.{Faulte
 use Rattle.object_grants.specs.Slot.{has_name, is_in, is_kind, slot_state_number}
 use Rattle.object_grants.specs.Table.{slot}
 use Rattle.object_grants.specs.declared.slot.SlotState.TheVariants.{Live}
-use Rattle.region_guard.specs.Memory.{Memory}
 use Rattle.rv_core.specs.Execute.{Effect, Completes, Stores, Calls, Faults}
 use Rattle.thread_calls.specs.ThreadRows.{resumption}
 use Rattle.board_core.specs.Action.{acted, device_of, resumed_by_name}
@@ -28,7 +27,7 @@ use Rattle.board_core.specs.Owners.{AreOwned, IsStarted}
 use Rattle.board_core.specs.Step.{after_effect, after_fault, next_effect, stepped, stepped_by, with_hart}
 use Rattle.board_core.specs.declared.parts.Parts.{Parts}
 use Rattle.board_core.specs.World.{World}
-use Rattle.board_core.proofs.OwnedCalls.{Owned, OwnedAfter, dispatched_owned, found_owned, resumption_owned}
+use Rattle.board_core.proofs.OwnedCalls.{Owned, dispatched_owned, found_owned, resumption_owned}
 use Rattle.board_core.proofs.OwnedHalt.{fault_owned}
 use Rattle.board_core.proofs.OwnedSlots.{owned_at}
 use Rattle.board_core.proofs.Running.{running_below, stepped_is, thread-with_hart}

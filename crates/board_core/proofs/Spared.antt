@@ -1,6 +1,6 @@
 -- What no event writes: code, the data of a module whose thread doesn't run, and by a fault nothing.
-use Rattle.std.proofs.Common.{◌≡◌, ◌≢◌, ◌⊎◌, ℕ, ◌+◌, ◌<◌, ◌≤◌, ◌==◌, ◌&&◌, Bool, true, false, nat_le, nat_lt, List, [], ◌∷◌, length, Option, None, Some, All, refl, sym, ap, ◌∙◌, subst, ⊎_elim, inl, inr, get_or, option_and_then, arith}
-use Rattle.std.proofs.lemmas.Bool.{and_cases, and_from, and_parts, cases_lt, cases_order, cond_both, eqb-true, false≢true, leb-true, ltb-false, or_cases}
+use Rattle.std.proofs.Common.{◌≡◌, ◌≢◌, ◌⊎◌, ℕ, ◌+◌, ◌<◌, ◌≤◌, ◌==◌, ◌&&◌, Bool, true, false, nat_le, nat_lt, List, [], ◌∷◌, length, Option, None, Some, All, refl, sym, ap, ◌∙◌, subst, ⊎_elim, inl, inr, get_or, arith}
+use Rattle.std.proofs.lemmas.Bool.{and_cases, and_from, and_parts, cases_lt, cases_order, eqb-true, false≢true, leb-true, ltb-false, or_cases}
 use Rattle.std.proofs.lemmas.List.{get_or_default}
 use Rattle.std.proofs.lemmas.List.Elements.{All-cons, All-nil, filter_passes}
 use Rattle.std.proofs.lemmas.List.Folds.{Any-from_list_any}
@@ -13,7 +13,6 @@ use Rattle.region_guard.specs.declared.region.Access.TheVariants.{Store}
 use Rattle.region_guard.specs.declared.region.Region.{Region}
 use Rattle.rv_core.specs.Execute.{Effect, Completes, Stores, Calls, Faults}
 use Rattle.rv_core.specs.Hart.{HartState}
-use Rattle.rv_core.specs.declared.bus.Cause.{Cause}
 use Rattle.event_log.specs.Events.{Event, Step, Irq}
 use Rattle.kernel_state.specs.Kernel.{thread, is_thread, module_of}
 use Rattle.kernel_state.specs.Laws.{RunningIsReady, ReadyIsThread}
@@ -27,8 +26,7 @@ use Rattle.module_manager.specs.Modules.{module_at}
 use Rattle.board_core.specs.Boot.{code_region, data_region}
 use Rattle.board_core.specs.Bus.{seen}
 use Rattle.board_core.specs.Frame.{effect_frame, frame, step_frame}
-use Rattle.board_core.specs.Laws.{CodeIsInNoFrame, DataIsItsModules, FaultKeepsBytes, FaultSparesOthers, IsDataOf, IsFaulting, IsWorld, Writes}
-use Rattle.board_core.specs.After.{after}
+use Rattle.board_core.specs.Laws.{CodeIsInNoFrame, DataIsItsModules, FaultKeepsBytes, FaultSparesOthers, IsDataOf, IsWorld, Writes}
 use Rattle.board_core.specs.Step.{after_effect, stepped, stepped_by, after_fault, next_effect, with_hart}
 use Rattle.board_core.specs.declared.parts.Parts.{Parts}
 use Rattle.board_core.specs.World.{World}

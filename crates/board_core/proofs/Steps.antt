@@ -11,7 +11,7 @@ use Rattle.rv_core.specs.Execute.{Effect, Completes, Stores, Calls, Faults}
 use Rattle.rv_core.specs.Hart.{HartState}
 use Rattle.rv_core.specs.declared.bus.Cause.{Cause}
 use Rattle.rv_core.specs.declared.execute.Out.TheVariants.{Done, Call, Fault}
-use Rattle.board_core.specs.Burst.{Burst, Made, hart_at, made_by, out_at}
+use Rattle.board_core.specs.Burst.{Burst, hart_at, made_by, out_at}
 use Rattle.board_core.specs.Step.{after_call, after_fault, ran_on, with_hart}
 use Rattle.board_core.specs.declared.parts.Parts.{Parts}
 use Rattle.board_core.proofs.BurstSteps.{Ends}

@@ -6,7 +6,6 @@ use Rattle.board_core.specs.After.{after}
 use Rattle.board_core.specs.Boot.{booted}
 use Rattle.board_core.specs.Laws.{TotalsAreOfEnded}
 use Rattle.board_core.specs.Report.{report_of}
-use Rattle.board_core.specs.Run.{Origin}
 use Rattle.board_core.specs.Trace.{Traced, begun, next, totals_of}
 
 pub now_is : (t : Traced) (es : List Event) → (fold next t es).now ≡ fold after t.now es

@@ -82,8 +82,8 @@ placed_at (Err i) = []
 abbrev pub loaded_modules : Board → List (List ℕ) → List Module
 loaded_modules b images = map loaded (zip (map words_of images) (placed_at (places b images)))
 
--- the regions of modules, those of module i first: its code can be fetched and loaded, its data loaded
--- and stored, by it alone
+-- the regions of modules, those of module i first: its code can be fetched and loaded, its data
+-- loaded and stored, by it alone
 abbrev pub code_region : ℕ → Module → Region
 code_region i m = record {
   base = m.placed.code_base;

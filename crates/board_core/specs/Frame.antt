@@ -9,8 +9,8 @@ use Rattle.board_core.specs.Step.{next_effect, with_hart}
 use Rattle.board_core.specs.World.{World}
 use Rattle.board_core.specs.declared.parts.Parts.{Parts}
 
--- a store writes its range, and a call its result where the caller's module may store there; nothing
--- else is written
+-- a store writes its range, and a call its result where the caller's module may store there;
+-- nothing else is written
 abbrev pub effect_frame : Parts → ℕ → Effect → List Range
 effect_frame p t (Completes h) = []
 effect_frame p t (Stores a n value h) = range a n ∷ []

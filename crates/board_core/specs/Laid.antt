@@ -1,5 +1,6 @@
 -- Modules as they lie in guarded memory: what holds of them when they are loaded, and stays.
 use Rattle.std.specs.Prelude.{◌≡◌, ℕ, ◌<◌, ◌≤◌, true, List, length, map, All}
+use Rattle.tx_types.specs.Limits.{module_limit, priority_count}
 use Rattle.module_loader.specs.Want.{want_of}
 use Rattle.module_manager.specs.Modules.{IsPlaced}
 use Rattle.module_manager.specs.declared.modules.Module.{Module}
@@ -15,14 +16,14 @@ use Rattle.board_core.specs.Laws.{images_in}
 abbrev pub AreAccepted : List (List ℕ) → Type 0
 AreAccepted images = All (λ image. IsAccepted image (words_of image)) images
 
--- the kernel has the priorities of its threads
+-- its threads begin at priorities that the board's kernel has
 pub record HasLevels (p : Preamble) : Type 0 where
-  pub start : p.start_prio < 32
-  pub callback : has_callback p ≡ true → p.callback_prio < 32
+  pub start : p.start_prio < priority_count
+  pub callback : has_callback p ≡ true → p.callback_prio < priority_count
 
 -- modules lie in memory at their places, each in regions of its own
 pub record AreLaid (g : Memory) (ms : List Module) : Type 0 where
-  pub at_most : length ms ≤ 16
+  pub at_most : length ms ≤ module_limit
   pub placed : All (λ m. IsPlaced m.preamble m.placed) ms
   pub levels : All (λ m. HasLevels m.preamble) ms
   pub regions : g.regions ≡ regions_of 0 ms

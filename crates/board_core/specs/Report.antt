@@ -2,6 +2,7 @@
 use Rattle.std.specs.Prelude.{ℕ, zero, suc, ◌+◌, ◌*◌, nat_le, false, List, [], ◌∷◌, ◌++◌, length, drop, Option, None, Some, if◌then◌else◌}
 use Rattle.std.specs.List.{slice_index_or}
 use Rattle.std.specs.Option.{option_map, option_to_list}
+use Rattle.tx_types.specs.End.{no_waits}
 use Rattle.tx_types.specs.State.{state_number}
 use Rattle.board_file.specs.declared.board.Board.{Board}
 use Rattle.board_file.specs.declared.board.BoardModule.{BoardModule}
@@ -12,7 +13,6 @@ use Rattle.board_values.specs.declared.report.ModuleRow.{ModuleRow}
 use Rattle.board_values.specs.declared.report.Report.{Report}
 use Rattle.board_values.specs.declared.report.ShowRow.{ShowRow}
 use Rattle.board_values.specs.declared.report.ThreadRow.{ThreadRow}
-use Rattle.board_values.specs.declared.report.Totals.{Totals}
 use Rattle.call_arguments.specs.Words.{word_at}
 use Rattle.kernel_state.specs.Kernel.{thread, is_thread, module_of, effective_priority, effective_threshold}
 use Rattle.kernel_state.specs.Rows.{object_row}
@@ -38,10 +38,6 @@ rows_below (suc n) row = rows_below n row ++ row n ∷ []
 unfoldable pub rows_found : {R : Type 0} → ℕ → (ℕ → Option R) → List R
 rows_found zero row = []
 rows_found (suc n) row = rows_found n row ++ option_to_list (row n)
-
--- no wait begins yet
-abbrev pub no_waits : Totals
-no_waits = record { begun = 0; satisfied = 0; timed_out = 0; aborted = 0; deleted = 0; gone = 0 }
 
 -- a module: its name, its state and its fault; no request is queued yet
 abbrev pub fault_row : Fault → FaultRow

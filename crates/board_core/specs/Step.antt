@@ -42,7 +42,9 @@ after_fault p t cause =
     let k = p.kernel in
     let m = module_of k t in
     let fault : Fault = record { thread = t; cause = cause; pc = (thread k t).hart.pc } in
-    record (with_change p (halted k p.memory m)) { modules = with_state p.modules m (Faulted fault) }
+    record (with_change p (halted k p.memory m)) {
+      modules = with_state p.modules m (Faulted fault);
+    }
 
 abbrev pub after_effect : Parts → ℕ → Effect → Parts
 after_effect p t (Completes h) = ran_on p t h p.memory

@@ -2,7 +2,7 @@
 use Rattle.std.specs.Prelude.{ℕ, ◌==◌, List, [], ◌++◌, count_by, length}
 use Rattle.tx_types.specs.declared.waits.End.{End}
 use Rattle.tx_types.specs.declared.waits.End.TheVariants.{Satisfied, TimedOut, Aborted, Deleted, Gone}
-use Rattle.board_values.specs.declared.report.Totals.{Totals}
+use Rattle.tx_types.specs.declared.waits.Totals.{Totals}
 use Rattle.event_log.specs.Events.{Event}
 use Rattle.tx_types.specs.End.{WaitEnd}
 use Rattle.board_core.specs.After.{after}

@@ -3,6 +3,7 @@
 //! Only `resume` is built: each other action answers FEATURE_NOT_ENABLED and changes nothing. The
 //! word isn't used, and what is kept of the device is written elsewhere.
 ghost use Rattle.std.specs.Prelude.{◌≡◌, ◌<◌, length};
+ghost use Rattle.tx_types.specs.Limits.{interrupt_limit};
 ghost use Rattle.kernel_state.specs.Serves.{Serves};
 ghost use Rattle.board_core.specs.Action.{acted, interrupted, resumed_by_name};
 ghost use Rattle.board_core.specs.Devices.{device_at};
@@ -20,7 +21,7 @@ impl Parts {
         requires serves { Serves self.old.kernel self.old.memory }
         requires board { d < length board.now.devices }
         requires device { d < length self.old.devices }
-        requires room { (device_at self.old.devices d).taken < 65536 }
+        requires room { (device_at self.old.devices d).taken < interrupt_limit }
         ensures parts { self.new ≡ interrupted board.now self.old d word }
         ensures serves { Serves self.new.kernel self.new.memory }
     {
@@ -41,7 +42,7 @@ impl Parts {
         let _ = word;
         match action {
             Action::Resume => self.resume_by_name(target),
-            _ => Code::new(0xFF),
+            _ => Code::FEATURE_NOT_ENABLED,
         }
     }
 

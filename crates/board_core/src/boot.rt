@@ -2,6 +2,7 @@
 //!
 //! All memory that its machine ever needs is taken here.
 ghost use Rattle.std.specs.Prelude.{◌≡◌, ◌≤◌, ◌<◌, [], length, IfOk, IfErr, None};
+ghost use Rattle.tx_types.specs.Limits.{interrupt_limit, priority_count};
 ghost use Rattle.kernel_state.specs.Serves.{Serves};
 ghost use Rattle.board_file.specs.Rules.{IsBoard};
 ghost use Rattle.board_core.specs.Boot.{Refuses, after_start, all_started, boot_refusal, booted_parts, contents, loaded_parts, one_started, start_of};
@@ -60,7 +61,7 @@ fn load(alloc: Global, board: &Board, images: &[Vec<u8>]) -> Result<Parts, BootE
     requires images { length images.now ≡ length board.now.modules }
     ensures parts { IfOk result (λ p. p ≡ loaded_parts board.now (contents images.now)) }
     ensures serves { IfOk result (λ p. Serves p.kernel p.memory) }
-    ensures levels { IfOk result (λ p. p.kernel.ready.levels ≡ 32) }
+    ensures levels { IfOk result (λ p. priority_count ≤ p.kernel.ready.levels) }
     ensures laid { IfOk result (λ p. AreLaid p.memory p.modules) }
     ensures count { IfOk result (λ p. length p.modules ≡ length board.now.modules) }
     ensures images { IfOk result (λ p. images_in p.memory p.modules ≡ contents images.now) }
@@ -84,13 +85,13 @@ impl Parts {
     /// Starts a module, and gives the status of the start.
     fn start(&mut self, i: ModNo) -> Code
         requires serves { Serves self.old.kernel self.old.memory }
-        requires levels { self.old.kernel.ready.levels ≡ 32 }
+        requires levels { priority_count ≤ self.old.kernel.ready.levels }
         requires laid { AreLaid self.old.memory self.old.modules }
         requires row { i < length self.old.modules }
         ensures parts { self.new ≡ after_start self.old (start_of self.old i) }
         ensures status { result ≡ (start_of self.old i).answer }
         ensures serves { Serves self.new.kernel self.new.memory }
-        ensures levels { self.new.kernel.ready.levels ≡ 32 }
+        ensures levels { priority_count ≤ self.new.kernel.ready.levels }
         ensures laid { AreLaid self.new.memory self.new.modules }
         ensures count { length self.new.modules ≡ length self.old.modules }
         ensures images { images_in self.new.memory self.new.modules
@@ -105,12 +106,12 @@ impl Parts {
     /// Starts a module, where it is to start.
     fn start_one(&mut self, m: &BoardModule, i: ModNo)
         requires serves { Serves self.old.kernel self.old.memory }
-        requires levels { self.old.kernel.ready.levels ≡ 32 }
+        requires levels { priority_count ≤ self.old.kernel.ready.levels }
         requires laid { AreLaid self.old.memory self.old.modules }
         requires row { i < length self.old.modules }
         ensures parts { self.new ≡ one_started i m.now self.old }
         ensures serves { Serves self.new.kernel self.new.memory }
-        ensures levels { self.new.kernel.ready.levels ≡ 32 }
+        ensures levels { priority_count ≤ self.new.kernel.ready.levels }
         ensures laid { AreLaid self.new.memory self.new.modules }
         ensures count { length self.new.modules ≡ length self.old.modules }
         ensures images { images_in self.new.memory self.new.modules
@@ -124,12 +125,12 @@ impl Parts {
     /// Starts the modules that are to start, in their order.
     fn start_all(&mut self, modules: &[BoardModule])
         requires serves { Serves self.old.kernel self.old.memory }
-        requires levels { self.old.kernel.ready.levels ≡ 32 }
+        requires levels { priority_count ≤ self.old.kernel.ready.levels }
         requires laid { AreLaid self.old.memory self.old.modules }
         requires count { length self.old.modules ≡ length modules.now }
         ensures parts { self.new ≡ all_started 0 modules.now self.old }
         ensures serves { Serves self.new.kernel self.new.memory }
-        ensures levels { self.new.kernel.ready.levels ≡ 32 }
+        ensures levels { priority_count ≤ self.new.kernel.ready.levels }
         ensures laid { AreLaid self.new.memory self.new.modules }
         ensures count { length self.new.modules ≡ length self.old.modules }
         ensures images { images_in self.new.memory self.new.modules
@@ -148,7 +149,7 @@ fn booted_parts(alloc: Global, board: &Board, images: &[Vec<u8>]) -> Result<Part
     requires images { length images.now ≡ length board.now.modules }
     ensures parts { IfOk result (λ p. p ≡ booted_parts board.now (contents images.now)) }
     ensures serves { IfOk result (λ p. Serves p.kernel p.memory) }
-    ensures levels { IfOk result (λ p. p.kernel.ready.levels ≡ 32) }
+    ensures levels { IfOk result (λ p. priority_count ≤ p.kernel.ready.levels) }
     ensures laid { IfOk result (λ p. AreLaid p.memory p.modules) }
     ensures count { IfOk result (λ p. length p.modules ≡ length board.now.modules) }
     ensures images { IfOk result (λ p. images_in p.memory p.modules ≡ contents images.now) }
@@ -180,7 +181,7 @@ impl Machine {
     ) -> Result<Machine, BootErr>
         requires board { IsBoard board.now }
         requires images { length images.now ≡ length board.now.modules }
-        requires irqs { max_irqs ≤ 65536 }
+        requires irqs { max_irqs ≤ interrupt_limit }
         ensures booted { IfOk result (λ m. m ≡ record {
           origin = record { board = board.now; images = contents images.now };
           history = [];

@@ -2,6 +2,7 @@
 //!
 //! These are plain values; what an action does to the kernel and to memory is elsewhere.
 ghost use Rattle.std.specs.Prelude.{◌≡◌, ◌<◌, length, IfOk, replicate};
+ghost use Rattle.tx_types.specs.Limits.{interrupt_limit};
 ghost use Rattle.board_core.specs.Devices.{device_at, fresh_device, noted};
 
 use board_values::DevNo;
@@ -72,7 +73,7 @@ impl Devices {
     /// One interrupt more was taken of a device, and its action had this status.
     pub(crate) fn note(&mut self, d: DevNo, status: Code)
         requires device { d < length self.old }
-        requires room { (device_at self.old d).taken < 65536 }
+        requires room { (device_at self.old d).taken < interrupt_limit }
         ensures { self.new ≡ noted self.old d status }
     {
         let row = &mut self.rows[d.number() as usize];

@@ -16,7 +16,7 @@ mod machine;
 mod parts;
 mod placing;
 mod replayer;
-mod rows;
+mod report_rows;
 mod shows;
 mod step;
 

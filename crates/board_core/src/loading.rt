@@ -1,6 +1,7 @@
 //! What a board is made of as it is booted: RAM with the images, the guard with the regions, and the
 //! kernel with the modules' spots.
 ghost use Rattle.std.specs.Prelude.{◌≡◌, ◌≤◌, length, map, replicate, All, IfOk};
+ghost use Rattle.tx_types.specs.Limits.{module_limit, priority_count};
 ghost use Rattle.kernel_state.specs.Kernel.{blank_kernel};
 ghost use Rattle.kernel_state.specs.Sound.{IsSound as IsSoundKernel};
 ghost use Rattle.module_manager.specs.Modules.{IsPlaced, loaded};
@@ -39,7 +40,7 @@ fn ram_with(
 
 /// The regions of modules: each has one for its code, and one for its data.
 fn regions(alloc: Global, rows: &[(Preamble, Placed)]) -> Result<Vec<Region>, AllocError>
-    requires few { length rows.now ≤ 16 }
+    requires few { length rows.now ≤ module_limit }
     requires placed { All (λ r. IsPlaced r.0 r.1) rows.now }
     ensures { IfOk result (λ rs. rs.items ≡ regions_of 0 (map loaded rows.now)) }
 {
@@ -79,11 +80,11 @@ fn guarded(alloc: Global, ram: Ram, regions: &[Region]) -> Result<Guard, NoMemor
 
 /// A kernel in which each module has its spot.
 pub(crate) fn kernel_with(alloc: Global, rows: &[(Preamble, Placed)]) -> Result<Kernel, NoMemory>
-    requires few { length rows.now ≤ 16 }
+    requires few { length rows.now ≤ module_limit }
     requires placed { All (λ r. IsPlaced r.0 r.1) rows.now }
     ensures spots { IfOk result (λ k. k ≡ with_spots 0 (map loaded rows.now) blank_kernel) }
     ensures sound { IfOk result IsSoundKernel }
-    ensures levels { IfOk result (λ k. k.ready.levels ≡ 32) }
+    ensures levels { IfOk result (λ k. k.ready.levels ≡ priority_count) }
 {
     let mut kernel = Kernel::new(alloc)?;
     for (i, (p, at)) in rows.iter().enumerate() {

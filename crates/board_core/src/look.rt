@@ -11,14 +11,14 @@ ghost use Rattle.board_core.specs.Run.{run};
 
 use crate::machine::Machine;
 use crate::parts::Parts;
-use crate::rows::{device_rows, module_rows, numbers, object_rows, thread_rows};
+use crate::report_rows::{device_rows, module_rows, numbers, object_rows, thread_rows};
 use crate::shows::show_rows;
 use board_file::Board;
-use board_values::{Report, Totals};
+use board_values::Report;
 use event_log::History;
 use kernel_state::Kernel;
 use std::alloc::Global;
-use tx_types::NoMemory;
+use tx_types::{NoMemory, Totals};
 
 /// The number of the running thread.
 fn running(kernel: &Kernel) -> Option<u16>
@@ -29,16 +29,6 @@ fn running(kernel: &Kernel) -> Option<u16>
         None => None,
     }
 }
-
-/// No wait begins yet.
-const NO_WAITS: Totals = Totals {
-    begun: 0,
-    satisfied: 0,
-    timed_out: 0,
-    aborted: 0,
-    deleted: 0,
-    gone: 0,
-};
 
 /// The report on a board by its parts and its history.
 #[tactic(auto, unfolding(crate::specs::Report::report_of))]
@@ -62,7 +52,7 @@ fn report(
         running: running(kernel),
         held: numbers(alloc, &kernel.ready.held_list(alloc)?)?,
         ready: numbers(alloc, &kernel.ready.ready_list(alloc)?)?,
-        totals: NO_WAITS,
+        totals: Totals::NONE,
         modules: module_rows(alloc, board, &parts.modules)?,
         threads: thread_rows(alloc, kernel)?,
         objects: object_rows(alloc, kernel)?,

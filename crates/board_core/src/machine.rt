@@ -3,6 +3,7 @@
 //! Its type keeps that the parts show what the written machine reaches from the board and the images
 //! by that history. Every event's memory was taken at boot, and each event always returns.
 ghost use Rattle.std.specs.Prelude.{◌≡◌, ◌+◌, ◌<◌, ◌≤◌, length};
+ghost use Rattle.tx_types.specs.Limits.{step_limit};
 ghost use Rattle.event_log.specs.Events.{words_of};
 ghost use Rattle.event_log.specs.Log.{IsHistory, irq_count, step_count, with_irq, with_step, with_steps};
 ghost use Rattle.region_guard.specs.Memory.{IsSound as IsSoundMemory};
@@ -52,7 +53,7 @@ impl Machine {
     /// Makes one step: the running thread's next instruction, with its whole call where that is an
     /// ECALL, or nothing where no thread runs.
     pub fn step(&mut self)
-        requires { step_count self.old.history < 100000000 }
+        requires { step_count self.old.history < step_limit }
         ensures { self.new ≡ record self.old { history = with_step self.old.history } }
     {
         self.steps(1);
@@ -60,7 +61,7 @@ impl Machine {
 
     /// Makes n steps, one after another.
     pub fn steps(&mut self, n: u32)
-        requires { step_count self.old.history + n ≤ 100000000 }
+        requires { step_count self.old.history + n ≤ step_limit }
         ensures { self.new ≡ record self.old { history = with_steps n self.old.history } }
     {
         a_history_grows_by_steps();
@@ -73,10 +74,11 @@ impl Machine {
     /// Makes at least one step and at most the given number, and says how many.
     fn make(&mut self, most: u32) -> u32
         requires some { 0 < most }
-        requires room { step_count self.old.history + most ≤ 100000000 }
+        requires room { step_count self.old.history + most ≤ step_limit }
         ensures some { 0 < result }
         ensures at_most { result ≤ most }
-        ensures history { self.new ≡ record self.old { history = with_steps result self.old.history } }
+        ensures history { self.new
+            ≡ record self.old { history = with_steps result self.old.history } }
     {
         a_history_grows_by_steps();
         an_event_keeps_regions_and_images();

@@ -2,6 +2,7 @@
 //!
 //! The first image that breaks a rule is refused before any module is placed.
 ghost use Rattle.std.specs.Prelude.{◌≡◌, ◌≤◌, ◌<◌, ◌^◌, length, map, zip, None, Ok, All, IfOk, IfErr};
+ghost use Rattle.tx_types.specs.Limits.{module_limit};
 ghost use Rattle.module_loader.specs.Want.{HasSizes, want_of};
 ghost use Rattle.module_preamble.specs.Words.{words_of};
 ghost use Rattle.module_manager.specs.Modules.{loaded};
@@ -19,7 +20,7 @@ use std::alloc::{AllocError, Global};
 
 /// What images say of their modules, or the first refusal.
 fn preambles(alloc: Global, images: &[Vec<u8>]) -> Result<Vec<Preamble>, BootErr>
-    requires { length images.now ≤ 16 }
+    requires { length images.now ≤ module_limit }
     ensures words { IfOk result (λ ps. ps.items ≡ map words_of (contents images.now)) }
     ensures accepted { IfOk result (λ _. AreAccepted (contents images.now)) }
     ensures none_refused { IfOk result (λ _. image_refusal 0 (contents images.now) ≡ None) }
@@ -50,7 +51,7 @@ fn wants(alloc: Global, preambles: &[Preamble]) -> Result<Vec<Want>, AllocError>
 /// Where modules lie in RAM of the given number of bytes, or the first that finds no room.
 fn places(alloc: Global, ram: u32, preambles: &[Preamble]) -> Result<Vec<Placed>, BootErr>
     requires ram { ram < 2 ^ 31 }
-    requires few { length preambles.now ≤ 16 }
+    requires few { length preambles.now ≤ module_limit }
     requires sizes { All HasSizes preambles.now }
     ensures placed { IfOk result (λ at. places_in ram preambles.now ≡ Ok at.items) }
     ensures refused { IfErr result (Refuses (room_refusal (places_in ram preambles.now))) }

@@ -10,6 +10,7 @@ use tx_types::NoMemory;
 
 impl Replayer for Machine {
     ghost use Rattle.std.specs.Prelude.{length, ◌-◌};
+    ghost use Rattle.tx_types.specs.Limits.{step_limit};
     ghost use Rattle.event_log.specs.Log.{irq_count, step_count};
     ghost use Rattle.board_core.specs.After.{after};
     ghost use Rattle.board_core.specs.Report.{report_of};
@@ -26,7 +27,7 @@ impl Replayer for Machine {
 
     ghost devices = { λ m. length m.origin.board.devices };
 
-    ghost steps_left = { λ m. 100000000 - step_count m.history };
+    ghost steps_left = { λ m. step_limit - step_count m.history };
 
     ghost irqs_left = { λ m. m.irqs - irq_count m.history };
 

@@ -7,7 +7,7 @@ ghost use Rattle.board_file.specs.Rules.{IsBoard, IsShow};
 ghost use Rattle.board_core.specs.Boot.{regions_of};
 ghost use Rattle.board_core.specs.Report.{rows_below, show_cell, show_cells, show_row};
 
-use crate::rows::put;
+use crate::report_rows::put;
 use board_file::{Board, BoardShow};
 use board_values::{Rows, ShowCells, ShowRow, ShowRows};
 use call_arguments::word_at;

@@ -3,6 +3,7 @@ use Rattle.std.specs.Prelude.{ℕ, zero, suc, ◌+◌, ◌*◌, Bool, false, nat
 use Rattle.std.specs.List.{list_any}
 use Rattle.std.specs.Str.{bytes_eq}
 use Rattle.toml.specs.Data.{Data, Members, no_items, as_bool, as_str}
+use Rattle.tx_types.specs.Limits.{module_limit, device_limit, show_limit, cell_limit, step_limit, interrupt_limit}
 use Rattle.board_file.specs.Field.{◌>>=◌, Part, named, required, optional, forbidden, in_range, name_of, name_unless, text_within, array_within, words_of, entries, nothing_else}
 use Rattle.board_file.specs.Path.{key_path}
 use Rattle.board_file.specs.declared.board.Action.{Action}
@@ -30,7 +31,9 @@ module_of part earlier = do
 
 -- the one action so far is `resume`
 abbrev pub action_of : Data → Option Action
-action_of d = option_and_then (λ text. if bytes_eq text (codes "resume") then Some Resume else None) (as_str d)
+action_of d =
+    option_and_then (λ text. if bytes_eq text (codes "resume") then Some Resume else None)
+    (as_str d)
 
 -- the words the given number of times over
 abbrev pub repeated : ℕ → List ℕ → List ℕ
@@ -41,9 +44,11 @@ repeated (suc n) words = repeated n words ++ words
 abbrev pub script_words : List BoardDevice → ℕ
 script_words ds = sum_by (λ (d : BoardDevice). length d.script) ds
 
--- the words the given number of times over, where all scripts have at most 65536 together
+-- the words the given number of times over, where all scripts have no more words together than
+-- there may be interrupts
 abbrev pub script_within : ℕ → ℕ → List ℕ → Option (List ℕ)
-script_within before n words = if nat_le (before + n * length words) 65536 then Some (repeated n words) else None
+script_within before n words =
+    if nat_le (before + n * length words) interrupt_limit then Some (repeated n words) else None
 
 -- `[[device]]`
 unfoldable pub device_of : Part → List BoardDevice → Result BoardDevice (List ℕ)
@@ -52,21 +57,25 @@ device_of part earlier = do
   action ← required action_of part (codes "action")
   target ← required name_of part (codes "target")
   words ← required words_of part (codes "script")
-  repeat ← optional 1 (in_range 1 65536 1) part (codes "repeat")
-  script ← named (key_path part.path (codes "script")) (script_within (script_words earlier) repeat words)
-  rest ← nothing_else (codes "name" ∷ codes "action" ∷ codes "target" ∷ codes "script" ∷ codes "repeat" ∷ []) part
+  repeat ← optional 1 (in_range 1 interrupt_limit 1) part (codes "repeat")
+  script ← named (key_path part.path (codes "script"))
+    (script_within (script_words earlier) repeat words)
+  rest ← nothing_else
+    (codes "name" ∷ codes "action" ∷ codes "target" ∷ codes "script" ∷ codes "repeat" ∷ []) part
   Ok (record { name = name; action = action; target = target; script = script })
 
 -- the number of the module of a name
 abbrev pub module_in : List BoardModule → Data → Option ℕ
-module_in modules d = option_and_then (λ name. position (λ (m : BoardModule). bytes_eq name m.name) modules) (as_str d)
+module_in modules d =
+    option_and_then (λ name. position (λ (m : BoardModule). bytes_eq name m.name) modules)
+    (as_str d)
 
 -- `[[show]]`
 unfoldable pub show_of : List BoardModule → Part → Result BoardShow (List ℕ)
 show_of modules part = do
   m ← required (module_in modules) part (codes "module")
   offset ← required (in_range 0 16777212 4) part (codes "offset")
-  words ← required (in_range 1 64 1) part (codes "words")
+  words ← required (in_range 1 cell_limit 1) part (codes "words")
   rest ← nothing_else (codes "module" ∷ codes "offset" ∷ codes "words" ∷ []) part
   Ok (record { «module» = m; offset = offset; words = words })
 
@@ -74,13 +83,21 @@ show_of modules part = do
 unfoldable pub board_of : Members → Result Board (List ℕ)
 board_of file = let top : Part = record { path = []; fields = file } in do
   ram ← required (in_range 4096 16777216 32) top (codes "ram")
-  steps ← required (in_range 0 100000000 1) top (codes "steps")
-  module_entries ← required (array_within 1 16) top (codes "module")
+  steps ← required (in_range 0 step_limit 1) top (codes "steps")
+  module_entries ← required (array_within 1 module_limit) top (codes "module")
   modules ← entries module_of (codes "module") [] module_entries
   shared ← forbidden top (codes "share")
-  device_entries ← optional no_items (array_within 0 16) top (codes "device")
+  device_entries ← optional no_items (array_within 0 device_limit) top (codes "device")
   devices ← entries device_of (codes "device") [] device_entries
-  show_entries ← optional no_items (array_within 0 16) top (codes "show")
+  show_entries ← optional no_items (array_within 0 show_limit) top (codes "show")
   shows ← entries (λ part earlier. show_of modules part) (codes "show") [] show_entries
-  rest ← nothing_else (codes "ram" ∷ codes "steps" ∷ codes "module" ∷ codes "device" ∷ codes "show" ∷ []) top
-  Ok (record { ram = ram; steps = steps; modules = modules; shares = []; devices = devices; shows = shows })
+  rest ← nothing_else
+    (codes "ram" ∷ codes "steps" ∷ codes "module" ∷ codes "device" ∷ codes "show" ∷ []) top
+  Ok (record {
+    ram = ram;
+    steps = steps;
+    modules = modules;
+    shares = [];
+    devices = devices;
+    shows = shows;
+  })

@@ -3,6 +3,7 @@
 //! All scripts together have at most 65,536 words; what is left of these goes along.
 ghost use Rattle.std.specs.Prelude.{◌≡◌, ◌+◌, ◌*◌, ◌≤◌, [], codes, length, nat_le, option_map, IfOk};
 ghost use Rattle.toml.specs.View.{view, array_view};
+ghost use Rattle.tx_types.specs.Limits.{interrupt_limit};
 ghost use Rattle.board_file.specs.Answer.{Reads, ReadsAs};
 ghost use Rattle.board_file.specs.Board.{action_of, device_of, names_device, repeated, script_within, script_words};
 ghost use Rattle.board_file.specs.Field.{required, named, name_unless, words_in, words_of, entries, entry_after};
@@ -31,7 +32,8 @@ fn names_device(devices: &[BoardDevice], name: &str) -> bool
 
 /// The name of a device, which none of these has.
 fn device_name(part: &Part, earlier: &[BoardDevice]) -> Result<Name, BoardErr>
-    ensures { Reads (required (name_unless (names_device earlier.now)) (part_view part.now) (codes "name")) result }
+    ensures { Reads (required (name_unless (names_device earlier.now)) (part_view part.now)
+        (codes "name")) result }
 {
     match part.name_text("name") {
         Some(text) if !names_device(earlier, text) => Ok(Name::from_bytes(text.as_bytes())),
@@ -65,7 +67,8 @@ fn words_in(alloc: Global, array: &Array) -> Result<Option<Vec<u32>>, AllocError
 
 /// The words of a script, once.
 fn words(part: &Part) -> Result<Vec<u32>, BoardErr>
-    ensures { ReadsAs (λ ws. ws.items) (required words_of (part_view part.now) (codes "script")) result }
+    ensures { ReadsAs (λ ws. ws.items)
+        (required words_of (part_view part.now) (codes "script")) result }
 {
     let array = match part.field("script") {
         Some(value) => value.as_array(),
@@ -95,8 +98,8 @@ fn repeated(alloc: Global, words: &[u32], n: u32) -> Result<Vec<u32>, AllocError
 /// Whether the words the given number of times over, beside these, are no more than all scripts may
 /// have.
 fn fits(words: &[u32], n: u32, before: usize) -> bool
-    requires { before ≤ 65536 }
-    ensures { result ≡ nat_le (before + n * length words.now) 65536 }
+    requires { before ≤ interrupt_limit }
+    ensures { result ≡ nat_le (before + n * length words.now) interrupt_limit }
 {
     match words.len().checked_mul(n as usize) {
         Some(more) => more <= MOST_WORDS - before,
@@ -106,9 +109,10 @@ fn fits(words: &[u32], n: u32, before: usize) -> bool
 
 /// A script, beside the given number of words of the scripts before it.
 fn script(part: &Part, words: &[u32], n: u32, before: usize) -> Result<Script, BoardErr>
-    requires { before ≤ 65536 }
-    ensures script { Reads (named (key_path (part_view part.now).path (codes "script")) (script_within before n words.now)) result }
-    ensures fits { IfOk result (λ s. before + length s ≤ 65536) }
+    requires { before ≤ interrupt_limit }
+    ensures script { Reads (named (key_path (part_view part.now).path (codes "script"))
+        (script_within before n words.now)) result }
+    ensures fits { IfOk result (λ s. before + length s ≤ interrupt_limit) }
 {
     if fits(words, n, before) {
         Ok(Script::new(repeated(part.alloc, words, n)?))
@@ -134,9 +138,9 @@ fn action(part: &Part) -> Result<Action, BoardErr>
 /// A device, where these come before it, whose scripts have the given number of words.
 fn device(part: &Part, earlier: &[BoardDevice], before: usize) -> Result<BoardDevice, BoardErr>
     requires words { before ≡ script_words earlier.now }
-    requires most { before ≤ 65536 }
+    requires most { before ≤ interrupt_limit }
     ensures device { Reads (device_of (part_view part.now) earlier.now) result }
-    ensures fits { IfOk result (λ d. before + length d.script ≤ 65536) }
+    ensures fits { IfOk result (λ d. before + length d.script ≤ interrupt_limit) }
 {
     let name = device_name(part, earlier)?;
     let action = action(part)?;
@@ -162,9 +166,10 @@ fn device_entry(
     before: usize,
 ) -> Result<BoardDevice, BoardErr>
     requires words { before ≡ script_words earlier.now }
-    requires most { before ≤ 65536 }
-    ensures device { Reads (entry_after device_of (codes "device") earlier.now (view value.now)) result }
-    ensures fits { IfOk result (λ d. before + length d.script ≤ 65536) }
+    requires most { before ≤ interrupt_limit }
+    ensures device { Reads (entry_after device_of (codes "device") earlier.now (view value.now))
+        result }
+    ensures fits { IfOk result (λ d. before + length d.script ≤ interrupt_limit) }
 {
     let path = entry_path(alloc, "device", earlier.len())?;
     let part = table_at(alloc, path.as_str(), value)?;
@@ -173,7 +178,8 @@ fn device_entry(
 
 /// The devices that the entries of an array are.
 fn device_entries(alloc: Global, array: &Array) -> Result<Vec<BoardDevice>, BoardErr>
-    ensures { ReadsAs (λ v. v.items) (entries device_of (codes "device") [] (array_view array.now)) result }
+    ensures { ReadsAs (λ v. v.items)
+        (entries device_of (codes "device") [] (array_view array.now)) result }
 {
     let mut devices = Vec::new(alloc);
     let mut words = 0;

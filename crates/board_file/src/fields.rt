@@ -5,6 +5,7 @@ ghost use Rattle.std.specs.Prelude.{◌≡◌, ◌<◌, ◌≤◌, IfSome, pos, 
 ghost use Rattle.std.specs.List.{list_all};
 ghost use Rattle.toml.specs.Data.{get_member, as_bool, as_str};
 ghost use Rattle.toml.specs.View.{view, array_view, table_view};
+ghost use Rattle.tx_types.specs.Limits.{name_limit};
 ghost use Rattle.board_file.specs.Field.{as_number, in_range, is_name, is_name_byte, is_of_length, items_count, name_of, text_within, array_within};
 
 use toml::Value;
@@ -52,7 +53,7 @@ fn has_name_bytes_alone(text: &str) -> bool
 /// A string that is a name.
 pub(crate) fn name_of(value: &Value) -> Option<&str>
     ensures value { option_copied result ≡ name_of (view value.now) }
-    ensures short { IfSome result (λ t. length t.now ≤ 31) }
+    ensures short { IfSome result (λ t. length t.now ≤ name_limit) }
 {
     match value.as_str() {
         Some(text) if is_name(text) => Some(text),
@@ -73,7 +74,8 @@ pub(crate) fn text_within(value: &Value, most: usize) -> Option<&str>
 /// Whether an array has low to high entries.
 #[tactic(auto, using(crate::proofs::Items::counted))]
 fn has_within(array: &Array, low: usize, high: usize) -> bool
-    ensures answer { result ≡ (nat_le low (items_count (array_view array.now)) && nat_le (items_count (array_view array.now)) high) }
+    ensures answer { let count = items_count (array_view array.now) in
+        result ≡ (nat_le low count && nat_le count high) }
     ensures within { result ≡ true → vec_len array.now ≤ high }
 {
     low <= array.len() && array.len() <= high
@@ -81,7 +83,8 @@ fn has_within(array: &Array, low: usize, high: usize) -> bool
 
 /// An array of low to high entries.
 pub(crate) fn array_within(value: &Value, low: usize, high: usize) -> Option<&Array>
-    ensures array { option_map (λ v. array_view v.now) result ≡ array_within low high (view value.now) }
+    ensures array { option_map (λ v. array_view v.now) result
+        ≡ array_within low high (view value.now) }
     ensures within { IfSome result (λ v. vec_len v.now ≤ high) }
 {
     match value.as_array() {

@@ -4,6 +4,7 @@
 //! image is only named: it is never opened here.
 ghost use Rattle.std.specs.Prelude.{◌≡◌, ◌≤◌, [], codes, length, vec_len, IfOk};
 ghost use Rattle.toml.specs.View.{view, array_view};
+ghost use Rattle.tx_types.specs.Limits.{module_limit};
 ghost use Rattle.board_file.specs.Answer.{Reads};
 ghost use Rattle.board_file.specs.Board.{module_of, names_module};
 ghost use Rattle.board_file.specs.Field.{required, name_unless, entries, entry_after};
@@ -27,7 +28,8 @@ fn names_module(modules: &[BoardModule], name: &str) -> bool
 
 /// The name of a module, which none of these has.
 fn module_name(part: &Part, earlier: &[BoardModule]) -> Result<Name, BoardErr>
-    ensures { Reads (required (name_unless (names_module earlier.now)) (part_view part.now) (codes "name")) result }
+    ensures { Reads (required (name_unless (names_module earlier.now)) (part_view part.now)
+        (codes "name")) result }
 {
     match part.name_text("name") {
         Some(text) if !names_module(earlier, text) => Ok(Name::from_bytes(text.as_bytes())),
@@ -61,9 +63,9 @@ fn module_entry(
 
 /// The modules that the entries of an array are.
 pub(crate) fn modules(alloc: Global, array: &Array) -> Result<BoardModules, BoardErr>
-    requires { vec_len array.now ≤ 16 }
+    requires { vec_len array.now ≤ module_limit }
     ensures modules { Reads (entries module_of (codes "module") [] (array_view array.now)) result }
-    ensures most { IfOk result (λ ms. length ms ≤ 16) }
+    ensures most { IfOk result (λ ms. length ms ≤ module_limit) }
 {
     let mut modules = Vec::new(alloc);
     for value in array {

@@ -6,6 +6,7 @@ ghost use Rattle.std.specs.List.{list_any};
 ghost use Rattle.std.specs.Str.{bytes_eq};
 ghost use Rattle.toml.specs.Data.{get_member, as_bool, no_items};
 ghost use Rattle.toml.specs.View.{view, array_view, table_view};
+ghost use Rattle.tx_types.specs.Limits.{name_limit};
 ghost use Rattle.board_file.specs.Answer.{Names, Reads, ReadsAs};
 ghost use Rattle.board_file.specs.Field.{named, required, optional, forbidden, in_range, name_of, text_within, array_within, table_at, nothing_else};
 ghost use Rattle.board_file.specs.Path.{entry_path, key_path};
@@ -64,7 +65,8 @@ fn named<T>(alloc: Global, path: &str, key: &str, value: Option<T>) -> Result<T,
 impl<'a> Part<'a> {
     /// What stands at a key.
     pub(crate) fn field(&self, key: &str) -> Option<&'a Value>
-        ensures { option_map (λ v. view v.now) result ≡ get_member key.now (table_view self.now.fields.now) }
+        ensures { option_map (λ v. view v.now) result
+            ≡ get_member key.now (table_view self.now.fields.now) }
     {
         self.fields.get(key)
     }
@@ -98,7 +100,8 @@ impl<'a> Part<'a> {
         step: u32,
     ) -> Result<u32, BoardErr>
         requires { 0 < step }
-        ensures { Reads (optional absent (in_range low high step) (part_view self.now) key.now) result }
+        ensures { Reads (optional absent (in_range low high step) (part_view self.now) key.now)
+            result }
     {
         let number = match self.field(key) {
             Some(value) => fields::in_range(value, low, high, step),
@@ -120,8 +123,9 @@ impl<'a> Part<'a> {
 
     /// What stands at a key, where it is a name.
     pub(crate) fn name_text(&self, key: &str) -> Option<&'a str>
-        ensures value { option_copied result ≡ option_and_then name_of (get_member key.now (part_view self.now).fields) }
-        ensures short { IfSome result (λ t. length t.now ≤ 31) }
+        ensures value { option_copied result
+            ≡ option_and_then name_of (get_member key.now (part_view self.now).fields) }
+        ensures short { IfSome result (λ t. length t.now ≤ name_limit) }
     {
         match self.field(key) {
             Some(value) => fields::name_of(value),
@@ -155,7 +159,8 @@ impl<'a> Part<'a> {
 
     /// An array of low to high entries.
     pub(crate) fn array(&self, key: &str, low: usize, high: usize) -> Result<&'a Array, BoardErr>
-        ensures array { ReadsAs (λ v. array_view v.now) (required (array_within low high) (part_view self.now) key.now) result }
+        ensures array { ReadsAs (λ v. array_view v.now)
+            (required (array_within low high) (part_view self.now) key.now) result }
         ensures within { IfOk result (λ v. vec_len v.now ≤ high) }
     {
         let array = match self.field(key) {
@@ -174,7 +179,8 @@ impl<'a> Part<'a> {
         key: &str,
         high: usize,
     ) -> Result<Option<&'a Array>, BoardErr>
-        ensures { ReadsAs entries_view (optional no_items (array_within 0 high) (part_view self.now) key.now) result }
+        ensures { ReadsAs entries_view
+            (optional no_items (array_within 0 high) (part_view self.now) key.now) result }
     {
         let value = match self.field(key) {
             Some(value) => value,

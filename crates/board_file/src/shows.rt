@@ -5,6 +5,7 @@
 ghost use Rattle.std.specs.Prelude.{◌≡◌, ◌≤◌, [], codes, length, position};
 ghost use Rattle.std.specs.Str.{bytes_eq};
 ghost use Rattle.toml.specs.View.{view, array_view};
+ghost use Rattle.tx_types.specs.Limits.{module_limit};
 ghost use Rattle.board_file.specs.Answer.{Reads, ReadsAs};
 ghost use Rattle.board_file.specs.Board.{module_in, show_of};
 ghost use Rattle.board_file.specs.Field.{required, entries, entry_after};
@@ -30,7 +31,7 @@ fn place(modules: &[BoardModule], name: &str) -> Option<usize>
 
 /// The module that a field names.
 fn module_in(modules: &[BoardModule], value: &Value) -> Option<ModNo>
-    requires { length modules.now ≤ 16 }
+    requires { length modules.now ≤ module_limit }
     ensures { result ≡ module_in modules.now (view value.now) }
 {
     match place(modules, value.as_str()?) {
@@ -41,8 +42,9 @@ fn module_in(modules: &[BoardModule], value: &Value) -> Option<ModNo>
 
 /// The module of a show.
 fn shown_module(part: &Part, modules: &[BoardModule]) -> Result<ModNo, BoardErr>
-    requires { length modules.now ≤ 16 }
-    ensures { Reads (required (module_in modules.now) (part_view part.now) (codes "module")) result }
+    requires { length modules.now ≤ module_limit }
+    ensures { Reads (required (module_in modules.now) (part_view part.now) (codes "module"))
+        result }
 {
     let module = match part.field("module") {
         Some(value) => module_in(modules, value),
@@ -56,7 +58,7 @@ fn shown_module(part: &Part, modules: &[BoardModule]) -> Result<ModNo, BoardErr>
 
 /// A show of one of these modules.
 fn show(part: &Part, modules: &[BoardModule]) -> Result<BoardShow, BoardErr>
-    requires { length modules.now ≤ 16 }
+    requires { length modules.now ≤ module_limit }
     ensures { Reads (show_of modules.now (part_view part.now)) result }
 {
     let module = shown_module(part, modules)?;
@@ -77,8 +79,9 @@ fn show_entry(
     value: &Value,
     earlier: &[BoardShow],
 ) -> Result<BoardShow, BoardErr>
-    requires { length modules.now ≤ 16 }
-    ensures { Reads (entry_after (λ part _. show_of modules.now part) (codes "show") earlier.now (view value.now)) result }
+    requires { length modules.now ≤ module_limit }
+    ensures { Reads (entry_after (λ part _. show_of modules.now part) (codes "show") earlier.now
+        (view value.now)) result }
 {
     let path = entry_path(alloc, "show", earlier.len())?;
     let part = table_at(alloc, path.as_str(), value)?;
@@ -91,8 +94,9 @@ fn show_entries(
     modules: &[BoardModule],
     array: &Array,
 ) -> Result<Vec<BoardShow>, BoardErr>
-    requires { length modules.now ≤ 16 }
-    ensures { ReadsAs (λ v. v.items) (entries (λ part _. show_of modules.now part) (codes "show") [] (array_view array.now)) result }
+    requires { length modules.now ≤ module_limit }
+    ensures { ReadsAs (λ v. v.items) (entries (λ part _. show_of modules.now part) (codes "show") []
+        (array_view array.now)) result }
 {
     let mut shows = Vec::new(alloc);
     for value in array {
@@ -107,8 +111,9 @@ pub(crate) fn shows(
     modules: &[BoardModule],
     array: Option<&Array>,
 ) -> Result<BoardShows, BoardErr>
-    requires { length modules.now ≤ 16 }
-    ensures { Reads (entries (λ part _. show_of modules.now part) (codes "show") [] (entries_view array.entry)) result }
+    requires { length modules.now ≤ module_limit }
+    ensures { Reads (entries (λ part _. show_of modules.now part) (codes "show") []
+        (entries_view array.entry)) result }
 {
     match array {
         Some(array) => Ok(BoardShows::new(show_entries(alloc, modules, array)?)),

@@ -1,5 +1,5 @@
 -- What a call of `run` may answer, from how it was begun and how it ended.
-use Rattle.std.proofs.Common.{◌≡◌, ℕ, ◌≤◌, List, Option, Some, None, Result, Ok, Err, IfSome, IfNone, ◌⊎◌, inl, inr, refl, sym, subst, ap}
+use Rattle.std.proofs.Common.{◌≡◌, ℕ, ◌≤◌, List, Option, Some, None, Result, Ok, Err, IfSome, IfNone, inl, inr, refl, sym, subst}
 use Rattle.std.specs.Option.{option_map}
 use Rattle.board_core.specs.Run.{Origin}
 use Rattle.board_io.specs.declared.status.Status.{Status}

@@ -1,16 +1,15 @@
 -- How a session ends, by how it was served and how it was finished.
-use Rattle.std.proofs.Common.{◌≡◌, ℕ, ◌≤◌, List, ◌++◌, Option, Result, Ok, Err, inl, inr, sym, subst, arith}
+use Rattle.std.proofs.Common.{ℕ, ◌≤◌, List, Option, Result, Ok, Err, inr, subst, arith}
 use Rattle.std.specs.Bool.{⊤}
 use Rattle.std.proofs.KnownBytes.{Appends-trans}
 use Rattle.std.specs.Io.KnownBytes.{Appends}
 use Rattle.board_core.specs.Run.{Origin}
 use Rattle.board_io.specs.Faults.{Rose}
 use Rattle.board_io.specs.Sink.{AppendsPrefix}
-use Rattle.board_io.specs.declared.status.Status.{Status}
 use Rattle.event_log.specs.Text.{text_of}
 use Rattle.event_log.specs.declared.entry.Entry.{Entry}
 use Rattle.board_live.proofs.Texts.{prefix_after}
-use Rattle.board_live.specs.Finish.{HasBegun, HasFinished}
+use Rattle.board_live.specs.Finish.{HasFinished}
 use Rattle.board_live.specs.Live.{HasRun, status_of}
 use Rattle.board_live.specs.declared.finish.FinishErr.{FinishErr}
 use Rattle.board_live.specs.declared.finish.FinishErr.TheVariants.{WriteFault, NoMemory}

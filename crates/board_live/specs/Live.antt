@@ -36,9 +36,9 @@ live_row_due (Some board) at = begun_or_due (booted_at board at)
 abbrev pub live_due : List (List ℕ) → (List ℕ → Option (List ℕ)) → Result Origin Due
 live_due words at = live_row_due (live_row_of words) at
 
--- How a session of a board ends. Done: the text of one run of the board was written, its log and its
--- report. After a fault of writing, which is a new one: a prefix of such a text, or of the log of a
--- run that has begun. Out of memory: nothing was written, or the whole log of a run.
+-- How a session of a board ends. Done: the text of one run of the board was written, its log and
+-- its report. After a fault of writing, which is a new one: a prefix of such a text, or of the log
+-- of a run that has begun. Out of memory: nothing was written, or the whole log of a run.
 abbrev pub HasRun : Origin → (sink_rose : Type 0) → (old new : Option (List ℕ)) → Status → Type 0
 HasRun o sink_rose old new Done = (h : List Entry) × IsRun o h × Appends old new (run_text o h)
 HasRun o sink_rose old new Usage = ⊥
@@ -66,8 +66,8 @@ LiveCompletes (Err due) c result = Completes due c result
 LiveCompletes (Ok o) c result =
     files_rose c ⊎ (sink_rose c ⊎ ((result ≡ Done) ⊎ (result ≡ NoMemory)))
 
--- Words in no row end in Usage with its line. Others don't: a session of some board ended so, or the
--- call stopped before it.
+-- Words in no row end in Usage with its line. Others don't: a session of some board ended so, or
+-- the call stopped before it.
 abbrev pub LiveAlways : Option (List ℕ) → Call → Status → Type 0
 LiveAlways None c result = Ends (sink_rose c) c.written_old c.written_new usage_line Usage result
 LiveAlways (Some board) c result =

@@ -4,6 +4,7 @@
 //! The open line of steps is written before memory is looked for, so that without a report the log
 //! is whole.
 ghost use Rattle.std.specs.Prelude.{◌≡◌, ◌≤◌, true, length};
+ghost use Rattle.tx_types.specs.Limits.{step_limit};
 ghost use Rattle.board_io.specs.Sink.{Wrote};
 ghost use Rattle.board_serve.specs.Got.{HasAll};
 ghost use Rattle.board_serve.specs.Raised.{HaveSentOf};
@@ -57,7 +58,7 @@ impl From<NoMemory> for FinishErr {
 
 /// Makes the steps that are left.
 fn step_out(machine: &mut Machine)
-    requires board { machine.old.origin.board.steps ≤ 100000000 }
+    requires board { machine.old.origin.board.steps ≤ step_limit }
     requires steps { step_count machine.old.history ≤ machine.old.origin.board.steps }
     ensures { machine.new ≡ record machine.old {
       history = stepped_out machine.old.origin machine.old.history;

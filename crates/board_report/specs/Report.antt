@@ -1,10 +1,9 @@
 -- The text of a report, line by line.
 use Rattle.std.specs.Prelude.{ℕ, List, [], ◌∷◌, ◌++◌, Option, None, Some, map, codes, decimal}
 use Rattle.std.specs.List.{flat_map}
-use Rattle.board_values.specs.Printing.{hex_byte}
-use Rattle.tx_types.specs.Line.{hex}
+use Rattle.tx_types.specs.Line.{hex, hex_byte}
+use Rattle.tx_types.specs.declared.waits.Totals.{Totals}
 use Rattle.board_values.specs.declared.report.Report.{Report}
-use Rattle.board_values.specs.declared.report.Totals.{Totals}
 use Rattle.board_values.specs.declared.report.ModuleRow.{ModuleRow}
 use Rattle.board_values.specs.declared.report.FaultRow.{FaultRow}
 use Rattle.board_values.specs.declared.report.ThreadRow.{ThreadRow}
@@ -19,8 +18,8 @@ first_line = codes "report" ++ newline
 -- how many events there were, and the clock
 unfoldable pub events_line : Report → List ℕ
 events_line r =
-    codes "events steps " ++ decimal r.steps ++ codes " irqs " ++ decimal r.irqs ++ codes " ticks " ++ decimal r.ticks
-    ++ codes " clock " ++ decimal r.clock ++ newline
+    codes "events steps " ++ decimal r.steps ++ codes " irqs " ++ decimal r.irqs
+    ++ codes " ticks " ++ decimal r.ticks ++ codes " clock " ++ decimal r.clock ++ newline
 
 unfoldable pub running_line : Option ℕ → List ℕ
 running_line running = codes "running " ++ running_text running ++ newline
@@ -40,20 +39,21 @@ waits_line t =
 
 unfoldable pub module_line : ModuleRow → List ℕ
 module_line m =
-    codes "module " ++ decimal m.«module» ++ codes " " ++ name_text m.name ++ codes " state " ++ decimal m.state
-    ++ codes " queued " ++ decimal m.queued ++ codes " dropped " ++ decimal m.dropped ++ newline
+    codes "module " ++ decimal m.«module» ++ codes " " ++ name_text m.name
+    ++ codes " state " ++ decimal m.state ++ codes " queued " ++ decimal m.queued
+    ++ codes " dropped " ++ decimal m.dropped ++ newline
 
 -- where a thread of this module faulted
 unfoldable pub fault_line : ℕ → FaultRow → List ℕ
 fault_line number f =
-    codes "fault " ++ decimal number ++ codes " thread " ++ decimal f.thread ++ codes " cause " ++ decimal f.cause
-    ++ codes " pc " ++ hex f.pc ++ newline
+    codes "fault " ++ decimal number ++ codes " thread " ++ decimal f.thread
+    ++ codes " cause " ++ decimal f.cause ++ codes " pc " ++ hex f.pc ++ newline
 
 -- which thread it is, and its state
 unfoldable pub thread_front : ThreadRow → List ℕ
 thread_front t =
-    codes "thread " ++ decimal t.thread ++ codes " module " ++ decimal t.«module» ++ codes " " ++ name_text t.name
-    ++ codes " state " ++ decimal t.state
+    codes "thread " ++ decimal t.thread ++ codes " module " ++ decimal t.«module»
+    ++ codes " " ++ name_text t.name ++ codes " state " ++ decimal t.state
 
 -- the user and the effective numbers, then the slice and what remains of it
 unfoldable pub thread_numbers : ThreadRow → List ℕ
@@ -71,14 +71,15 @@ regs_line regs = codes "regs" ++ words_text regs ++ newline
 
 unfoldable pub object_line : ObjectRow → List ℕ
 object_line o =
-    codes "object " ++ decimal o.object ++ codes " module " ++ decimal o.«module» ++ codes " kind " ++ decimal o.kind
-    ++ codes " " ++ name_text o.name ++ pair_text (codes " ") o.a o.b ++ codes " " ++ decimal o.c
+    codes "object " ++ decimal o.object ++ codes " module " ++ decimal o.«module»
+    ++ codes " kind " ++ decimal o.kind ++ codes " " ++ name_text o.name
+    ++ pair_text (codes " ") o.a o.b ++ codes " " ++ decimal o.c
     ++ codes " waits" ++ numbers_text o.waits ++ newline
 
 unfoldable pub device_line : DeviceRow → List ℕ
 device_line d =
-    codes "device " ++ decimal d.device ++ codes " " ++ name_text d.name ++ codes " taken " ++ decimal d.taken
-    ++ codes " last " ++ hex_byte d.last ++ newline
+    codes "device " ++ decimal d.device ++ codes " " ++ name_text d.name
+    ++ codes " taken " ++ decimal d.taken ++ codes " last " ++ hex_byte d.last ++ newline
 
 unfoldable pub show_line : ShowRow → List ℕ
 show_line s = codes "show " ++ decimal s.show ++ cells_text s.cells ++ newline
@@ -89,7 +90,8 @@ last_line = codes "end" ++ newline
 -- the lines before the rows
 abbrev pub head_lines : Report → List (List ℕ)
 head_lines r =
-    first_line ∷ events_line r ∷ running_line r.running ∷ held_line r.held ∷ ready_line r.ready ∷ waits_line r.totals ∷ []
+    first_line ∷ events_line r ∷ running_line r.running ∷ held_line r.held ∷ ready_line r.ready
+    ∷ waits_line r.totals ∷ []
 
 abbrev pub fault_lines : ℕ → Option FaultRow → List (List ℕ)
 fault_lines number None = []

@@ -4,10 +4,10 @@
 //! printable report is cut short. Nothing is written to a file or sink here.
 #![tactic(auto)]
 
-mod kinds;
+mod line_text;
 mod parts;
 mod report;
-mod rows;
+mod row_places;
 
 pub use parts::{end_line, put_name, put_words};
 pub use report::{lines, report_line};

@@ -6,10 +6,10 @@ ghost use Rattle.std.specs.List.{slice_get};
 ghost use Rattle.board_report.specs.Printable.{IsPrintable};
 ghost use Rattle.board_report.specs.Report.{head_lines, report_lines};
 
-use crate::kinds::{
+use crate::line_text::{
     put_events, put_first, put_held, put_last, put_ready, put_running_line, put_waits,
 };
-use crate::rows::{
+use crate::row_places::{
     module_count, put_device_line, put_module_line, put_object_line, put_show_line,
     put_thread_line, row_count, thread_count,
 };

@@ -18,7 +18,6 @@ use Rattle.board_run.specs.Placing.{places_in}
 use Rattle.board_run.specs.Refused.{refused_boot, refused_image, refused_room}
 use Rattle.board_run.specs.Booting.{booted_from}
 use Rattle.board_run.specs.Step.{◌>>=◌, each}
-use Rattle.board_run.specs.declared.boards.Loaded.{Loaded}
 use Rattle.board_run.specs.declared.check.Checked.{Checked}
 use Rattle.board_run.specs.declared.refusal.Refusal.TheVariants.{Image, Room}
 use Rattle.board_run.specs.declared.refusal.Stop.{Stop}

@@ -1,5 +1,5 @@
 -- From how a call ended to what it may answer.
-use Rattle.std.proofs.Common.{◌≡◌, ℕ, ◌≤◌, List, Option, Some, None, Result, Ok, Err, IfSome, IfNone, MatchResult, ◌⊎◌, inl, inr, ap, sym, subst, refl}
+use Rattle.std.proofs.Common.{◌≡◌, ℕ, ◌≤◌, List, Option, Some, None, Result, Ok, Err, IfSome, IfNone, MatchResult, inl, inr, ap, sym, subst, refl}
 use Rattle.std.specs.Option.{option_map}
 use Rattle.board_run.specs.Answer.{Answers, Completes}
 use Rattle.board_run.specs.Call.{Call, Ended, Writes, files_rose, sink_rose}

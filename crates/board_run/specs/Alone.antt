@@ -17,9 +17,13 @@ abbrev pub code_region : Preamble → Placed → Region
 code_region p at = record { base = at.code_base; size = (want_of p).code; rights = Code; who = 1 }
 
 abbrev pub data_region : Preamble → Placed → Region
-data_region p at = record { base = at.data_base; size = (want_of p).data_bytes; rights = ReadWrite; who = 1 }
+data_region p at =
+    record { base = at.data_base; size = (want_of p).data_bytes; rights = ReadWrite; who = 1 }
 
 -- RAM of a size, which is zero but for the image at its place
 unfoldable pub alone : ℕ → Preamble → Placed → List ℕ → Memory
 alone size p at image =
-    record { regions = code_region p at ∷ data_region p at ∷ []; bytes = loaded (replicate size 0) image at.code_base }
+    record {
+      regions = code_region p at ∷ data_region p at ∷ [];
+      bytes = loaded (replicate size 0) image at.code_base;
+    }

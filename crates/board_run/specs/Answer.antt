@@ -7,8 +7,8 @@ use Rattle.board_run.specs.Ending.{Ends}
 use Rattle.board_io.specs.declared.status.Status.{Status}
 use Rattle.board_io.specs.declared.status.Status.TheVariants.{Done, Usage, ReadFault, Refused, WriteFault, NoMemory}
 
--- The status due, with its text written whole. Or a fault of reading, with nothing written; a fault of
--- writing, with a prefix of the text written; or out of memory, with nothing written.
+-- The status due, with its text written whole. Or a fault of reading, with nothing written; a fault
+-- of writing, with a prefix of the text written; or out of memory, with nothing written.
 abbrev pub Answers : Due → Call → Status → Type 0
 Answers due c Done = (due.status ≡ Done) × Writes c due.text
 Answers due c Usage = (due.status ≡ Usage) × Writes c due.text

@@ -18,7 +18,8 @@ board_at name at = do
   refused_board (board_in bytes)
 
 -- the images of modules, in their order
-unfoldable pub images_at : List BoardModule → (List ℕ → Option (List ℕ)) → Result (List (List ℕ)) Stop
+unfoldable pub images_at : List BoardModule → (List ℕ → Option (List ℕ))
+    → Result (List (List ℕ)) Stop
 images_at modules at = each (λ i m. image_at i m.image at) 0 modules
 
 -- the board in the file of a name, with the images of its modules

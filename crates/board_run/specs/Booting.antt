@@ -10,7 +10,8 @@ use Rattle.board_run.specs.declared.refusal.Stop.{Stop}
 
 -- if it is booted
 unfoldable pub booted_from : Loaded → Result Origin Stop
-booted_from l = refused_boot (record { board = l.board; images = l.images }) (boot_refusal l.board l.images)
+booted_from l =
+    refused_boot (record { board = l.board; images = l.images }) (boot_refusal l.board l.images)
 
 -- the same of the board in the file of a name
 unfoldable pub booted_at : List ℕ → (List ℕ → Option (List ℕ)) → Result Origin Stop

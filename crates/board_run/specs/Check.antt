@@ -1,5 +1,6 @@
 -- What `check` finds of a board, and its text.
 use Rattle.std.specs.Prelude.{◌≡◌, ℕ, ◌+◌, ◌≤◌, List, [], ◌∷◌, ◌++◌, length, Option, Result, Ok, codes, decimal}
+use Rattle.tx_types.specs.Limits.{module_limit}
 use Rattle.board_file.specs.declared.board.BoardModule.{BoardModule}
 use Rattle.board_report.specs.Parts.{name_text, newline}
 use Rattle.module_loader.specs.Want.{want_of}
@@ -30,7 +31,7 @@ checked l = do
 
 -- there is a want and a place for each module
 pub record IsWhole (c : Checked) : Type 0 where
-  pub few : length c.modules ≤ 16
+  pub few : length c.modules ≤ module_limit
   pub wants : length c.wants ≡ length c.modules
   pub places : length c.places ≡ length c.modules
 
@@ -48,7 +49,8 @@ module_line number m want at =
 
 -- a line for each module, from a number on
 abbrev pub modules_text : ℕ → List BoardModule → List Want → List Placed → List ℕ
-modules_text number (m ∷ ms) (w ∷ ws) (p ∷ ps) = module_line number m w p ++ modules_text (number + 1) ms ws ps
+modules_text number (m ∷ ms) (w ∷ ws) (p ∷ ps) =
+    module_line number m w p ++ modules_text (number + 1) ms ws ps
 modules_text number _ _ _ = []
 
 unfoldable pub check_text : Checked → List ℕ

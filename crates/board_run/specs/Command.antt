@@ -4,6 +4,7 @@ use Rattle.std.specs.Fmt.{decimal}
 use Rattle.std.specs.Option.{option_map}
 use Rattle.std.specs.Str.{bytes_eq}
 use Rattle.std.specs.Str.Parse.{digits_value}
+use Rattle.tx_types.specs.Limits.{step_limit}
 use Rattle.board_run.specs.declared.command.Command.{Command}
 use Rattle.board_run.specs.declared.command.Command.TheVariants as command
 
@@ -13,14 +14,16 @@ pub data Row : Type 0 where
   Check : (board : List ℕ) → Row
   Replay : (board log : List ℕ) → Row
 
--- the number of a word, which is its decimal text (so no sign and no leading zero), where it is at most so much
+-- the number of a word, which is its decimal text (so no sign and no leading zero), where it is at
+-- most so much
 unfoldable pub number : List ℕ → (most : ℕ) → Option ℕ
 number word most =
-    let n = digits_value 10 word in if bytes_eq (decimal n) word && nat_le n most then Some n else None
+    let n = digits_value 10 word in
+    if bytes_eq (decimal n) word && nat_le n most then Some n else None
 
 -- hart IMAGE N, with N at most a hundred million
 unfoldable pub hart_row : List (List ℕ) → Option Row
-hart_row (image ∷ steps ∷ []) = option_map (Hart image) (number steps 100000000)
+hart_row (image ∷ steps ∷ []) = option_map (Hart image) (number steps step_limit)
 hart_row _ = None
 
 -- check BOARD

@@ -1,4 +1,5 @@
--- What is due for a list of words: a status and the text to be written, by the bytes that the files hold.
+-- What is due for a list of words: a status and the text to be written, by the bytes that the files
+-- hold.
 use Rattle.std.specs.Prelude.{ℕ, false, List, [], Option, Some, None, Result, Ok, Err, codes}
 use Rattle.module_loader.specs.Opening.{opening}
 use Rattle.module_preamble.specs.Preamble.{preamble}
@@ -21,7 +22,8 @@ use Rattle.board_io.specs.declared.status.Status.TheVariants.{Done, Usage, ReadF
 unfoldable pub image_ran : ℕ → List ℕ → Result Ran Stop
 image_ran most bytes = do
   p ← refused_image 0 (preamble bytes)
-  let at = alone_at p in Ok (memory_ran most (alone 4194304 p at bytes) (opening p at p.start false))
+  let at = alone_at p in
+    Ok (memory_ran most (alone 4194304 p at bytes) (opening p at p.start false))
 
 unfoldable pub hart_ran : List ℕ → ℕ → (List ℕ → Option (List ℕ)) → Result Ran Stop
 hart_ran name most at = do
@@ -52,7 +54,8 @@ due_of (Err ReadFault) = record { status = StatusReadFault; text = [] }
 due_of (Err NoMemory) = record { status = StatusNoMemory; text = [] }
 
 abbrev pub usage_line : List ℕ
-usage_line = codes "usage: txboard hart IMAGE N | check BOARD | replay BOARD LOG | run BOARD | gen SEED\n"
+usage_line =
+    codes "usage: txboard hart IMAGE N | check BOARD | replay BOARD LOG | run BOARD | gen SEED\n"
 
 abbrev pub row_due : Option Row → (List ℕ → Option (List ℕ)) → Due
 row_due None at = record { status = Usage; text = usage_line }

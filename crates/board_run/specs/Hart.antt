@@ -18,7 +18,8 @@ end_of Done = Count
 end_of OutCall = Call
 end_of (OutFault cause) = Fault cause
 
--- the run of code of module 0 in guarded memory: a call isn't counted, and it and a fault leave the registers as they were
+-- the run of code of module 0 in guarded memory: a call isn't counted, and it and a fault leave the
+-- registers as they were
 unfoldable pub memory_ran : ℕ → Memory → HartState → Ran
 memory_ran most memory h =
     let b = burst 0 most h memory in

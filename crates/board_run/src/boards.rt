@@ -3,6 +3,7 @@
 //! The board is read first, and then each image in the board's order; no preamble is looked at here.
 ghost use Rattle.std.specs.Prelude.{◌≡◌, ◌≤◌, length, IfOk};
 ghost use Rattle.std.specs.Option.{option_map};
+ghost use Rattle.tx_types.specs.Limits.{module_limit};
 ghost use Rattle.board_file.specs.Answer.{board_in};
 ghost use Rattle.board_file.specs.Rules.{IsBoard};
 ghost use Rattle.board_run.specs.Boards.{IsLoaded, board_at, images_at, loaded_at};
@@ -59,7 +60,7 @@ fn images_of<F: Files>(
     modules: &[BoardModule],
     files: &mut F,
 ) -> Result<Images, Stop>
-    requires { length modules.now ≤ 16 }
+    requires { length modules.now ≤ module_limit }
     ensures held { F.held files.new ≡ F.held files.old }
     ensures counted { F.faults files.old ≤ F.faults files.new }
     ensures images { Gives (λ i. i) (option_map (images_at modules.now) (F.held files.old))

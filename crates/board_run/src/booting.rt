@@ -3,6 +3,7 @@
 //! No event is made here, and nothing is written.
 ghost use Rattle.std.specs.Prelude.{◌≡◌, ◌≤◌, [], IfOk};
 ghost use Rattle.std.specs.Option.{option_map};
+ghost use Rattle.tx_types.specs.Limits.{interrupt_limit};
 ghost use Rattle.board_file.specs.Board.{script_words};
 ghost use Rattle.board_file.specs.Rules.{IsBoard};
 ghost use Rattle.board_io.specs.Faults.{Rose};
@@ -21,7 +22,7 @@ use std::alloc::Global;
 #[tactic(auto, unfolding(crate::specs::Booting::booted_from))]
 pub fn boot(alloc: Global, loaded: &Loaded, irqs: u32) -> Result<Machine, Stop>
     requires loaded { IsLoaded loaded.now }
-    requires room { irqs ≤ 65536 }
+    requires room { irqs ≤ interrupt_limit }
     ensures origin { GivesHere (λ m. m.origin) (booted_from loaded.now) result }
     ensures board { IfOk result (λ m. m.origin.board ≡ loaded.now.board) }
     ensures fresh { IfOk result (λ m. m.history ≡ []) }
@@ -65,7 +66,8 @@ fn boot_loaded(alloc: Global, loaded: Loaded) -> Result<Booted, Stop>
 pub fn boot_board<F: Files>(alloc: Global, name: &str, files: &mut F) -> Result<Booted, Stop>
     ensures held { F.held files.new ≡ F.held files.old }
     ensures counted { F.faults files.old ≤ F.faults files.new }
-    ensures origin { Gives (λ b. b.machine.origin) (option_map (booted_at name.now) (F.held files.old))
+    ensures origin { Gives (λ b. b.machine.origin)
+        (option_map (booted_at name.now) (F.held files.old))
         (Rose (F.faults files.old) (F.faults files.new)) result }
     ensures board { IfOk result (λ b. b.machine.origin.board ≡ b.board) }
     ensures rules { IfOk result (λ b. IsBoard b.board) }

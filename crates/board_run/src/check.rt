@@ -4,6 +4,7 @@
 //! place.
 ghost use Rattle.std.specs.Prelude.{◌≡◌, ◌≤◌, ◌<◌, length, map, IfOk};
 ghost use Rattle.std.specs.Option.{option_map};
+ghost use Rattle.tx_types.specs.Limits.{module_limit};
 ghost use Rattle.board_run.specs.Boards.{IsLoaded};
 ghost use Rattle.board_run.specs.Check.{IsWhole, want_in, checked, checked_at, module_line, modules_text, check_text};
 ghost use Rattle.board_io.specs.Faults.{Rose};
@@ -42,8 +43,9 @@ fn want_in(number: u8, image: &[u8]) -> Result<Want, Stop>
 
 /// How much memory the modules of images need, in their order.
 fn wants_in(alloc: Global, images: &[Vec<u8>]) -> Result<Vec<Want>, Stop>
-    requires { length images.now ≤ 16 }
-    ensures wants { GivesHere (λ v. v.items) (each want_in 0 (map (λ v. v.items) images.now)) result }
+    requires { length images.now ≤ module_limit }
+    ensures wants { GivesHere (λ v. v.items)
+        (each want_in 0 (map (λ v. v.items) images.now)) result }
     ensures count { IfOk result (λ v. length v.items ≡ length images.now) }
 {
     let mut wants = Vec::new(alloc);
@@ -89,7 +91,8 @@ pub fn check_board<F: Files>(alloc: Global, name: &str, files: &mut F) -> Result
 pub fn write_check<S: Sink>(checked: &Checked, sink: &mut S) -> Result<(), WriteErr>
     requires { IsWhole checked.now }
     ensures counted { S.faults sink.old ≤ S.faults sink.new }
-    ensures wrote { Wrote (S.faults sink.old) (S.faults sink.new) (S.written sink.old) (S.written sink.new)
+    ensures wrote { Wrote (S.faults sink.old) (S.faults sink.new)
+        (S.written sink.old) (S.written sink.new)
         (check_text checked.now) result }
 {
     let modules = checked.modules.items();
@@ -109,11 +112,12 @@ fn write_modules<S: Sink>(
     places: &[Placed],
     sink: &mut S,
 ) -> Result<(), WriteErr>
-    requires few { length modules.now ≤ 16 }
+    requires few { length modules.now ≤ module_limit }
     requires wants { length wants.now ≡ length modules.now }
     requires places { length places.now ≡ length modules.now }
     ensures counted { S.faults sink.old ≤ S.faults sink.new }
-    ensures wrote { Wrote (S.faults sink.old) (S.faults sink.new) (S.written sink.old) (S.written sink.new)
+    ensures wrote { Wrote (S.faults sink.old) (S.faults sink.new)
+        (S.written sink.old) (S.written sink.new)
         (modules_text 0 modules.now wants.now places.now) result }
 {
     for (i, m) in modules.iter().enumerate() {

@@ -3,6 +3,7 @@
 //! The image is module 0, and its code and data are all that it may use.
 ghost use Rattle.std.specs.Prelude.{◌≡◌, ◌+◌, ◌≤◌, ◌++◌, length};
 ghost use Rattle.std.specs.Option.{option_map};
+ghost use Rattle.tx_types.specs.Limits.{line_room};
 ghost use Rattle.arrayvec.specs.ArrayString.{array_string_len};
 ghost use Rattle.board_run.specs.Due.{image_ran, hart_ran};
 ghost use Rattle.board_io.specs.Faults.{Rose};
@@ -69,7 +70,8 @@ pub fn hart_ran<F: Files>(alloc: Global, name: &str, most: u32, files: &mut F) -
 #[tactic(auto, using(crate::proofs::Writing::writing), unfolding(crate::specs::Hart::hart_text))]
 pub fn write_hart<S: Sink>(ran: &Ran, sink: &mut S) -> Result<(), WriteErr>
     ensures counted { S.faults sink.old ≤ S.faults sink.new }
-    ensures wrote { Wrote (S.faults sink.old) (S.faults sink.new) (S.written sink.old) (S.written sink.new)
+    ensures wrote { Wrote (S.faults sink.old) (S.faults sink.new)
+        (S.written sink.old) (S.written sink.new)
         (hart_text ran.now) result }
 {
     sink.write(steps_line(ran).as_str().as_bytes())?;
@@ -100,7 +102,7 @@ fn memory_ran(guard: &mut Guard, mut hart: Hart, most: u32) -> Ran
 
 /// Appends how a run ended.
 fn put_end(line: &mut Line, end: End)
-    requires { array_string_len line.old + 16 ≤ 1280 }
+    requires { array_string_len line.old + 16 ≤ line_room }
     ensures bytes { line.new.bytes ≡ line.old.bytes ++ end_text end }
     ensures short { array_string_len line.new ≤ array_string_len line.old + 16 }
 {

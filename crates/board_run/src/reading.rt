@@ -26,7 +26,8 @@ pub fn file_of<F: Files>(
     requires { most < 2 ^ 31 }
     ensures held { F.held files.new ≡ F.held files.old }
     ensures counted { F.faults files.old ≤ F.faults files.new }
-    ensures file { Gives (λ v. v.items) (option_map (file_at most too_large name.now) (F.held files.old))
+    ensures file { Gives (λ v. v.items) (option_map (file_at most too_large name.now)
+        (F.held files.old))
         (Rose (F.faults files.old) (F.faults files.new)) result }
     ensures within { IfOk result (λ v. length v.items ≤ most) }
 {

@@ -89,7 +89,8 @@ impl Refusal {
 
     /// Appends what is refused and why.
     fn put(&self, text: &mut String) -> Result<(), AllocError>
-        ensures { OnOk result (string_bytes text.new ≡ string_bytes text.old ++ refusal_text self.now) }
+        ensures { OnOk result (string_bytes text.new
+            ≡ string_bytes text.old ++ refusal_text self.now) }
     {
         match self {
             Refusal::BoardTooLarge => text.push_str("board too large"),
@@ -116,7 +117,8 @@ impl Refusal {
 
 /// Appends a word and a number.
 fn put_numbered(text: &mut String, word: &str, number: u32) -> Result<(), AllocError>
-    ensures { OnOk result (string_bytes text.new ≡ string_bytes text.old ++ word.now ++ decimal number) }
+    ensures { OnOk result (string_bytes text.new
+        ≡ string_bytes text.old ++ word.now ++ decimal number) }
 {
     let mut buffer = Buffer::new();
     text.push_str(word)?;

@@ -5,6 +5,7 @@
 ghost use Rattle.std.specs.Prelude.{◌≡◌, ◌≤◌, [], length, IfOk};
 ghost use Rattle.std.specs.List.{flat_map};
 ghost use Rattle.std.specs.Option.{option_map};
+ghost use Rattle.tx_types.specs.Limits.{device_limit, interrupt_limit};
 ghost use Rattle.board_core.specs.Report.{report_of};
 ghost use Rattle.board_core.specs.Run.{run};
 ghost use Rattle.board_report.specs.Printable.{IsPrintable};
@@ -44,7 +45,7 @@ pub struct Replayed {
 /// The history that bytes mean on a board with the given number of devices, or why they are
 /// refused.
 fn log_in(alloc: Global, bytes: &[u8], devices: u8) -> Result<History, Stop>
-    requires { devices ≤ 16 }
+    requires { devices ≤ device_limit }
     ensures log { GivesHere (λ h. h.entries) (refused_log (log_in devices bytes.now)) result }
     ensures history { IfOk result (λ h. IsHistory devices h.entries) }
 {
@@ -58,7 +59,7 @@ fn log_in(alloc: Global, bytes: &[u8], devices: u8) -> Result<History, Stop>
 /// The history in the log of a name, on a board with the given number of devices.
 #[tactic(auto, using(crate::proofs::Step::steps), unfolding(crate::specs::Replay::log_at))]
 fn log_of<F: Files>(alloc: Global, name: &str, devices: u8, files: &mut F) -> Result<History, Stop>
-    requires { devices ≤ 16 }
+    requires { devices ≤ device_limit }
     ensures held { F.held files.new ≡ F.held files.old }
     ensures counted { F.faults files.old ≤ F.faults files.new }
     ensures log { Gives (λ h. h.entries) (option_map (log_at devices name.now) (F.held files.old))
@@ -72,7 +73,7 @@ fn log_of<F: Files>(alloc: Global, name: &str, devices: u8, files: &mut F) -> Re
 /// The report of what a booted board reaches by a history.
 fn report_after(alloc: Global, mut machine: Machine, history: &History) -> Result<Report, NoMemory>
     requires fresh { machine.history ≡ [] }
-    requires room { machine.irqs ≡ 65536 }
+    requires room { machine.irqs ≡ interrupt_limit }
     requires history { IsHistory (length machine.origin.board.devices) history.now.entries }
     ensures report { IfOk result (λ r. r ≡ report_of (run machine.origin history.now.entries).now) }
     ensures printable { IfOk result IsPrintable }
@@ -138,7 +139,8 @@ pub fn replay_log<F: Files>(
 pub fn write_session<S: Sink>(replayed: &Replayed, sink: &mut S) -> Result<(), WriteErr>
     requires { IsPrintable replayed.now.report }
     ensures counted { S.faults sink.old ≤ S.faults sink.new }
-    ensures wrote { Wrote (S.faults sink.old) (S.faults sink.new) (S.written sink.old) (S.written sink.new)
+    ensures wrote { Wrote (S.faults sink.old) (S.faults sink.new)
+        (S.written sink.old) (S.written sink.new)
         (session_text (session replayed.now)) result }
 {
     write_log(&replayed.history, sink)?;
@@ -148,7 +150,8 @@ pub fn write_session<S: Sink>(replayed: &Replayed, sink: &mut S) -> Result<(), W
 /// Writes a line for each entry of a history.
 fn write_log<S: Sink>(history: &History, sink: &mut S) -> Result<(), WriteErr>
     ensures counted { S.faults sink.old ≤ S.faults sink.new }
-    ensures wrote { Wrote (S.faults sink.old) (S.faults sink.new) (S.written sink.old) (S.written sink.new)
+    ensures wrote { Wrote (S.faults sink.old) (S.faults sink.new)
+        (S.written sink.old) (S.written sink.new)
         (text_of history.now.entries) result }
 {
     for i in 0..history.len() {
@@ -163,7 +166,8 @@ fn write_log<S: Sink>(history: &History, sink: &mut S) -> Result<(), WriteErr>
 pub fn write_report<S: Sink>(report: &Report, sink: &mut S) -> Result<(), WriteErr>
     requires { IsPrintable report.now }
     ensures counted { S.faults sink.old ≤ S.faults sink.new }
-    ensures wrote { Wrote (S.faults sink.old) (S.faults sink.new) (S.written sink.old) (S.written sink.new)
+    ensures wrote { Wrote (S.faults sink.old) (S.faults sink.new)
+        (S.written sink.old) (S.written sink.new)
         (report_text report.now) result }
 {
     for i in 0..lines(report) {

@@ -31,7 +31,8 @@ pub fn board_still<F: Files, S: Sink>(
         (call F.held F.faults files.old files.new S.written S.faults sink.old sink.new) result }
 
     // Where no count rose, it is the status due, or out of memory.
-    ensures complete { IfSome (F.held files.old) (λ at. Completes (due (map string_bytes words.now) at)
+    ensures complete { IfSome (F.held files.old)
+        (λ at. Completes (due (map string_bytes words.now) at)
         (call F.held F.faults files.old files.new S.written S.faults sink.old sink.new) result) }
 
     // By the words alone, whatever the files hold.

@@ -1,5 +1,6 @@
 -- The scripts of a board's devices.
 use Rattle.std.specs.Prelude.{ℕ, ◌≤◌, List, [], length, slice_index_or}
+use Rattle.tx_types.specs.Limits.{interrupt_limit}
 use Rattle.board_file.specs.declared.board.BoardDevice.{BoardDevice}
 use Rattle.board_file.specs.declared.board.Action.TheVariants.{Resume}
 
@@ -11,4 +12,4 @@ script_of devices d =
 
 -- no script has more words than a board may have
 abbrev pub HasShortScripts : List BoardDevice → Type 0
-HasShortScripts devices = (d : ℕ) → length (script_of devices d) ≤ 65536
+HasShortScripts devices = (d : ℕ) → length (script_of devices d) ≤ interrupt_limit

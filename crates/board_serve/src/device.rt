@@ -3,6 +3,7 @@
 //! A thread holds the inbox, the pass of its device, the gate, a flag and the script, and nothing of
 //! the kernel. It gives back its pass, and promises that a prefix of the script was raised with it.
 ghost use Rattle.std.specs.Prelude.{◌≡◌, ℕ, ◌≤◌, List, [], ◌∷◌, ◌++◌, length};
+ghost use Rattle.tx_types.specs.Limits.{interrupt_limit};
 ghost use Rattle.atomic_table.specs.Seated.{TableId};
 ghost use Rattle.board_serve.specs.Raised.{HasRaised, IsRunning, at_first};
 
@@ -63,7 +64,7 @@ fn work<R: Wait, G: Gate>(
 ) -> (DevPass, u32)
     requires inbox { pass.inbox ≡ inbox.now }
     requires nothing { pass.sent ≡ [] }
-    requires short { length script.now ≤ 65536 }
+    requires short { length script.now ≤ interrupt_limit }
     ensures { HasRaised pass script.now result.0 result.1 }
 {
     let mut pass = pass;
@@ -94,7 +95,7 @@ pub(crate) fn start_one<'s, 'b: 's, E, R: Wait + Sync, G: Gate + Sync>(
 ) -> Device<'b>
     requires inbox { pass.inbox ≡ inbox.now }
     requires nothing { pass.sent ≡ [] }
-    requires short { length script.now ≤ 65536 }
+    requires short { length script.now ≤ interrupt_limit }
     ensures { IsRunning pass.inbox pass.number script.now result }
 {
     if script.is_empty() {
@@ -107,7 +108,8 @@ pub(crate) fn start_one<'s, 'b: 's, E, R: Wait + Sync, G: Gate + Sync>(
     match scope.spawn_with(
         promise,
         move || -> (DevPass, u32)
-            requires { (pass.inbox ≡ inbox.now) × (pass.sent ≡ []) × (length script.now ≤ 65536) }
+            requires { (pass.inbox ≡ inbox.now) × (pass.sent ≡ [])
+                × (length script.now ≤ interrupt_limit) }
             ensures { HasRaised pass script.entry.now result.0 result.1 }
         { work(rt, inbox, pass, d, script, gate, stop) },
     ) {
@@ -123,7 +125,7 @@ pub(crate) fn start_one<'s, 'b: 's, E, R: Wait + Sync, G: Gate + Sync>(
 /// One turn of a device that the caller turns: its next word is raised where the inbox has room, and
 /// the gate isn't asked. A device with a thread, or with all words raised, is left alone.
 pub(crate) fn turn_one<R: Wait>(rt: &R, inbox: &Inbox, script: &[u32], device: &mut Device)
-    requires short { length script.now ≤ 65536 }
+    requires short { length script.now ≤ interrupt_limit }
     requires running { (number : ℕ) × IsRunning inbox.now number script.now device.old }
     ensures { (number : ℕ) → IsRunning inbox.now number script.now device.old
         → IsRunning inbox.now number script.now device.new }

@@ -3,6 +3,7 @@
 //! Nothing is allocated for a list here: the lists that are given have the room. What one device
 //! does at its work has a file of its own.
 ghost use Rattle.std.specs.Prelude.{◌≡◌, ◌≤◌, List, [], length, vec_len, vec_capacity};
+ghost use Rattle.tx_types.specs.Limits.{device_limit};
 ghost use Rattle.atomic_table.specs.Seated.{TableId};
 ghost use Rattle.board_file.specs.declared.board.BoardDevice.{BoardDevice};
 ghost use Rattle.irq_inbox.specs.Seen.{AreAllOf, HaveSentNothing};
@@ -31,7 +32,7 @@ pub(crate) fn start_all<'s, 'b: 's, E, R: Wait + Sync, G: Gate + Sync>(
 ) -> Vec<Device<'b>>
     requires passes { AreAllOf inbox.now (length devices.now) passes.items }
     requires nothing { HaveSentNothing passes.items }
-    requires few { length devices.now ≤ 16 }
+    requires few { length devices.now ≤ device_limit }
     requires short { HasShortScripts devices.now }
     requires stops { length stops.now ≡ length devices.now }
     requires empty { working.items ≡ [] }

@@ -10,23 +10,25 @@ pub struct DevNo(u8);
 
 impl Model for DevNo {
     ghost use Rattle.std.specs.Prelude.{ℕ, ◌<◌};
+    ghost use Rattle.tx_types.specs.Limits.{device_limit};
 
     ghost Value = { ℕ };
 
     ghost view = { λ d. d.0 };
 
-    ghost invariant = { λ d. d.0 < 16 };
+    ghost invariant = { λ d. d.0 < device_limit };
 
     ghost inverse = { λ n. record { 0 = n } };
 }
 
 impl DevNo {
     ghost use Rattle.std.specs.Prelude.{◌≡◌, ◌<◌};
+    ghost use Rattle.tx_types.specs.Limits.{device_limit};
 
     /// The device of a number.
     #[inline]
     pub fn new(number: u8) -> DevNo
-        requires { number < 16 }
+        requires { number < device_limit }
         ensures { result ≡ number }
     {
         DevNo(number)
@@ -36,7 +38,7 @@ impl DevNo {
     #[inline]
     pub fn number(self) -> u8
         ensures same { result ≡ self }
-        ensures below_16 { result < 16 }
+        ensures below_16 { result < device_limit }
     {
         self.0
     }

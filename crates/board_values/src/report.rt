@@ -4,7 +4,7 @@
 //! The fields of a row stand in the order of the words of its line. Lists are `Rows`, which clauses
 //! see as lists.
 use std::marker::Model;
-use tx_types::Name;
+use tx_types::{Name, Totals};
 
 /// A list that was collected whole and is only read from then on.
 #[derive(Drop)]
@@ -61,17 +61,6 @@ pub type DeviceRows = Rows<DeviceRow>;
 
 /// A row for each place in memory that the board asks to see.
 pub type ShowRows = Rows<ShowRow>;
-
-/// How many waits began, and how many ended in each way.
-#[derive(Clone, Copy, Debug, PartialEq, Eq)]
-pub struct Totals {
-    pub begun: u64,
-    pub satisfied: u64,
-    pub timed_out: u64,
-    pub aborted: u64,
-    pub deleted: u64,
-    pub gone: u64,
-}
 
 /// The instruction at which a module's thread faulted.
 #[derive(Clone, Copy, Debug, PartialEq, Eq)]

@@ -1,11 +1,9 @@
 -- The closed entries of a history.
-use Rattle.std.proofs.Common.{◌≡◌, ℕ, zero, suc, ◌+◌, ◌-◌, ◌*◌, ◌≤◌, true, false, not, ◌||◌, ◌&&◌, List, [], ◌∷◌, ◌++◌, length, Option, None, Some, MatchOption, slice_get, refl, sym, ap, ◌∙◌, arith, append-nil, append_assoc, length-append}
+use Rattle.std.proofs.Common.{◌≡◌, ℕ, zero, suc, ◌+◌, ◌-◌, ◌*◌, ◌≤◌, true, false, not, List, [], ◌∷◌, ◌++◌, length, Some, slice_get, refl, sym, ap, ◌∙◌, arith, append-nil, append_assoc, length-append}
 use native.Mathlib.Numerals.{unary_clauses}
-use Rattle.std.proofs.lemmas.Bool.{and_parts}
 use Rattle.std.proofs.lemmas.Grind.{flat_map-append}
-use Rattle.std.proofs.lemmas.List.Concat.{length-flat_map}
 use Rattle.event_log.specs.Events.{interrupts, interrupts_in}
-use Rattle.event_log.specs.Log.{is_irq, irq_count, parted, stepped, closed, unclosed, with_step, with_steps}
+use Rattle.event_log.specs.Log.{is_irq, irq_count, parted, closed, unclosed, with_step, with_steps}
 use Rattle.event_log.specs.declared.entry.Entry.{Entry}
 use Rattle.event_log.specs.declared.entry.Entry.TheVariants.{Steps, Irq}
 use Rattle.event_log.proofs.Entries.{by-last, ends_in_steps, ends-append, irq_count-cons}

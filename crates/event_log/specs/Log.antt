@@ -1,6 +1,7 @@
 -- A history: the steps and interrupts of a run, in order.
 use Rattle.std.specs.Prelude.{◌≡◌, ℕ, zero, suc, ◌+◌, ◌^◌, ◌<◌, ◌≤◌, ◌||◌, ◌&&◌, Bool, true, false, if◌then◌else◌, List, [], ◌∷◌, ◌++◌, All, count_by}
 use Rattle.std.specs.List.{sum_by}
+use Rattle.tx_types.specs.Limits.{device_limit, step_limit, interrupt_limit}
 use Rattle.event_log.specs.declared.entry.Entry.{Entry}
 use Rattle.event_log.specs.declared.entry.Entry.TheVariants.{Steps, Irq}
 
@@ -42,14 +43,14 @@ IsEntry devices (Irq d w) = (d < devices) × (w < 2 ^ 32)
 pub record IsHistory (devices : ℕ) (es : List Entry) : Type 0 where
   pub entries : All (IsEntry devices) es
   pub apart : parted es ≡ true
-  pub steps : step_count es ≤ 100000000
-  pub irqs : irq_count es ≤ 65536
+  pub steps : step_count es ≤ step_limit
+  pub irqs : irq_count es ≤ interrupt_limit
 
 -- a history that has room for its interrupts
 pub record IsSound (h : Log) : Type 0 where
-  pub history : IsHistory 16 h.entries
+  pub history : IsHistory device_limit h.entries
   pub room : irq_count h.entries ≤ h.irqs
-  pub at_most : h.irqs ≤ 65536
+  pub at_most : h.irqs ≤ interrupt_limit
 
 -- an entry with one step more after it
 abbrev pub stepped : Entry → List Entry

@@ -3,6 +3,7 @@ use Rattle.std.specs.Prelude.{ℕ, ◌+◌, ◌^◌, Bool, ◌&&◌, ◌||◌, �
 use Rattle.std.specs.List.{list_all, slice_split, onto_first}
 use Rattle.std.specs.Str.{bytes_eq}
 use Rattle.std.specs.Str.Parse.{digits_value}
+use Rattle.tx_types.specs.Limits.{step_limit, interrupt_limit}
 use Rattle.event_log.specs.Log.{parted, step_count, irq_count}
 use Rattle.event_log.specs.Text.{line_of}
 use Rattle.event_log.specs.declared.entry.Entry.{Entry}
@@ -38,7 +39,7 @@ is_entry devices (Irq d w) = nat_lt d devices && nat_lt w (2 ^ 32)
 abbrev pub is_history : ℕ → List Entry → Bool
 is_history devices es =
     list_all (is_entry devices) es && parted es
-    && nat_le (step_count es) 100000000 && nat_le (irq_count es) 65536
+    && nat_le (step_count es) step_limit && nat_le (irq_count es) interrupt_limit
 
 -- the entries and one more after them, where that is a history
 abbrev pub longer : ℕ → List Entry → Entry → Option (List Entry)

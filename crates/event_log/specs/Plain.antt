@@ -1,7 +1,7 @@
 -- The plainest world: the events that were made.
 use Rattle.std.specs.Prelude.{ℕ, Bool, true, false, not, List, [], None, count_by}
 use Rattle.board_values.specs.declared.report.Report.{Report}
-use Rattle.board_values.specs.declared.report.Totals.{Totals}
+use Rattle.tx_types.specs.End.{no_waits}
 use Rattle.event_log.specs.Events.{Event, Step, Irq}
 
 -- the events so far, the number of devices, and the room for steps and for interrupts
@@ -14,9 +14,6 @@ pub record Made : Type 0 where
 abbrev pub is_step : Event → Bool
 is_step Step = true
 is_step (Irq d w) = false
-
-abbrev pub no_waits : Totals
-no_waits = record { begun = 0; satisfied = 0; timed_out = 0; aborted = 0; deleted = 0; gone = 0 }
 
 -- how many steps and interrupts there were, on a board with nothing on it
 abbrev pub counts_of : List Event → Report

@@ -1,5 +1,6 @@
 -- What a reading says of a text, and what makes readings exact.
 use Rattle.std.specs.Prelude.{◌≡◌, ℕ, ◌≤◌, List, Result, Ok, Err}
+use Rattle.tx_types.specs.Limits.{device_limit}
 use Rattle.event_log.specs.Log.{Log, IsHistory}
 use Rattle.event_log.specs.LogIn.{log_in}
 use Rattle.event_log.specs.Text.{text_of, IsLogText, IsBadLine}
@@ -28,25 +29,27 @@ Answers due (Err (BadLine line)) = due ≡ Err line
 -- no two histories have the same text
 abbrev pub TextsApart : ℕ → Type 0
 TextsApart devices =
-    devices ≤ 16 → (es fs : List Entry) → IsHistory devices es → IsHistory devices fs
+    devices ≤ device_limit → (es fs : List Entry) → IsHistory devices es → IsHistory devices fs
     → text_of es ≡ text_of fs → es ≡ fs
 
 -- the text of a history has no bad line
 abbrev pub NoBadLine : ℕ → Type 0
 NoBadLine devices =
-    devices ≤ 16 → (es : List Entry) (line : ℕ) (bytes : List ℕ) → IsLogText devices es bytes
+    devices ≤ device_limit → (es : List Entry) (line : ℕ) (bytes : List ℕ)
+    → IsLogText devices es bytes
     → IsBadLine devices line bytes → ⊥
 
 -- a text has one first bad line at most
 abbrev pub OneBadLine : ℕ → Type 0
 OneBadLine devices =
-    devices ≤ 16 → (line other : ℕ) (bytes : List ℕ) → IsBadLine devices line bytes
+    devices ≤ device_limit → (line other : ℕ) (bytes : List ℕ) → IsBadLine devices line bytes
     → IsBadLine devices other bytes → line ≡ other
 
 -- the text of a history says that history
 abbrev pub ReadsBack : ℕ → Type 0
 ReadsBack devices =
-    devices ≤ 16 → (es : List Entry) → IsHistory devices es → log_in devices (text_of es) ≡ Ok es
+    devices ≤ device_limit → (es : List Entry) → IsHistory devices es
+    → log_in devices (text_of es) ≡ Ok es
 
 -- bytes are the text of a history, or have that first bad line
 abbrev pub Holds : ℕ → List ℕ → Result (List Entry) ℕ → Type 0
@@ -55,4 +58,5 @@ Holds devices bytes (Err line) = IsBadLine devices line bytes
 
 -- what bytes say is so
 abbrev pub SaysTrue : ℕ → Type 0
-SaysTrue devices = devices ≤ 16 → (bytes : List ℕ) → Holds devices bytes (log_in devices bytes)
+SaysTrue devices =
+    devices ≤ device_limit → (bytes : List ℕ) → Holds devices bytes (log_in devices bytes)

@@ -2,6 +2,7 @@
 use Rattle.std.specs.Prelude.{◌≡◌, ℕ, ◌+◌, ◌<◌, ◌≤◌, List, [], ◌∷◌, ◌++◌, length, take, codes, decimal}
 use Rattle.std.specs.List.{flat_map}
 use Rattle.tx_types.specs.Line.{hex}
+use Rattle.tx_types.specs.Limits.{device_limit}
 use Rattle.event_log.specs.Log.{IsEntry, IsHistory}
 use Rattle.event_log.specs.declared.entry.Entry.{Entry}
 use Rattle.event_log.specs.declared.entry.Entry.TheVariants.{Steps, Irq}
@@ -39,7 +40,7 @@ Ends devices es text =
 -- a text begins with the line of an entry that may come next, the given number of bytes
 pub record GoesOn (devices : ℕ) (es : List Entry) (text : List ℕ) (e : Entry) (n : ℕ) : Type 0 where
   pub lawful : IsEntry devices e
-  pub history : IsHistory 16 (es ++ e ∷ [])
+  pub history : IsHistory device_limit (es ++ e ∷ [])
   pub some : 0 < n
   pub within : n ≤ length text
   pub line : take n text ≡ line_of e

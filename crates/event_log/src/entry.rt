@@ -5,6 +5,7 @@ ghost use Rattle.std.specs.Prelude.{◌≡◌, ◌+◌, ◌≤◌, ◌++◌, ◌
 ghost use Rattle.arrayvec.specs.ArrayString.{array_string_len};
 ghost use Rattle.event_log.specs.Log.{IsEntry, steps_in};
 ghost use Rattle.event_log.specs.Text.{line_of};
+ghost use Rattle.tx_types.specs.Limits.{line_room};
 
 use board_values::DevNo;
 use tx_types::{Line, put_decimal, put_hex};
@@ -43,7 +44,7 @@ impl Entry {
 
 /// Appends the line of an entry, which takes up to 22 bytes.
 pub fn entry_line(e: Entry, out: &mut Line)
-    requires { array_string_len out.old + 22 ≤ 1280 }
+    requires { array_string_len out.old + 22 ≤ line_room }
     ensures bytes { out.new.bytes ≡ out.old.bytes ++ line_of e }
     ensures short { array_string_len out.new ≤ array_string_len out.old + 22 }
 {

@@ -2,8 +2,9 @@
 //!
 //! All its memory is taken by `reserve`; steps that follow one another are one entry, so there are at
 //! most twice as many entries as interrupts, and one more.
-ghost use Rattle.std.specs.Prelude.{◌≡◌, ◌+◌, ◌<◌, ◌≤◌, ◌↔◌, ◌∷◌, ◌++◌, [], IsTrue, length, slice_index_or, vec_capacity, IfOk, MatchOption};
+ghost use Rattle.std.specs.Prelude.{◌≡◌, ◌+◌, ◌*◌, ◌<◌, ◌≤◌, ◌↔◌, ◌∷◌, ◌++◌, [], IsTrue, length, slice_index_or, vec_capacity, IfOk, MatchOption};
 ghost use Rattle.event_log.specs.Log.{Log, IsEntry, IsHistory, IsSound, step_count, irq_count, last_steps, with_step, with_steps, with_irq, closed};
+ghost use Rattle.tx_types.specs.Limits.{device_limit, step_limit, interrupt_limit};
 
 use crate::entry::Entry;
 use crate::{MOST_IRQS, MOST_STEPS};
@@ -38,7 +39,7 @@ impl Model for History {
 impl History {
     /// No entry yet, and room for the given number of interrupts.
     pub fn reserve(alloc: Global, irqs: u32) -> Result<History, NoMemory>
-        requires { irqs ≤ 65536 }
+        requires { irqs ≤ interrupt_limit }
         ensures { IfOk result (λ h. h ≡ record { entries = []; irqs = irqs }) }
     {
         let entries = Vec::with_capacity(alloc, 2 * irqs as usize + 1)?;
@@ -52,7 +53,7 @@ impl History {
 
     /// One step more.
     pub fn add_step(&mut self)
-        requires { step_count self.old.entries < 100000000 }
+        requires { step_count self.old.entries < step_limit }
         ensures entries { self.new.entries ≡ with_step self.old.entries }
         ensures room { self.new.irqs ≡ self.old.irqs }
     {
@@ -61,7 +62,7 @@ impl History {
 
     /// The given number of steps more.
     pub fn add_steps(&mut self, n: u32)
-        requires { step_count self.old.entries + n ≤ 100000000 }
+        requires { step_count self.old.entries + n ≤ step_limit }
         ensures entries { self.new.entries ≡ with_steps n self.old.entries }
         ensures room { self.new.irqs ≡ self.old.irqs }
     {
@@ -84,8 +85,8 @@ impl History {
 
     /// Whether an entry may go last.
     pub(crate) fn may_add(&self, e: &Entry) -> bool
-        requires { IsEntry 16 e.now }
-        ensures { IsTrue result ↔ IsHistory 16 (self.now.entries ++ e.now ∷ []) }
+        requires { IsEntry device_limit e.now }
+        ensures { IsTrue result ↔ IsHistory device_limit (self.now.entries ++ e.now ∷ []) }
     {
         let entries = &self.entries;
         match e {
@@ -96,8 +97,8 @@ impl History {
 
     /// One entry more.
     pub(crate) fn add(&mut self, e: Entry)
-        requires history { IsHistory 16 (self.old.entries ++ e ∷ []) }
-        requires room { self.old.irqs ≡ 65536 }
+        requires history { IsHistory device_limit (self.old.entries ++ e ∷ []) }
+        requires room { self.old.irqs ≡ interrupt_limit }
         ensures entries { self.new.entries ≡ self.old.entries ++ e ∷ [] }
         ensures room { self.new.irqs ≡ self.old.irqs }
     {
@@ -111,7 +112,7 @@ impl History {
     /// How many entries there are.
     pub fn len(&self) -> u32
         ensures value { result ≡ length self.now.entries }
-        ensures few { result ≤ 131073 }
+        ensures few { result ≤ 2 * interrupt_limit + 1 }
     {
         let entries = &self.entries;
         entries.len() as u32
@@ -137,7 +138,7 @@ impl History {
     /// For how many interrupts in all there is room.
     pub fn room(&self) -> u32
         ensures same { result ≡ self.now.irqs }
-        ensures at_most { result ≤ 65536 }
+        ensures at_most { result ≤ interrupt_limit }
     {
         let _ = &self.entries;
         self.irqs
@@ -163,8 +164,8 @@ impl History {
 /// Raises a last entry of steps by at least one, or opens one.
 fn put_steps(entries: &mut Vec<Entry>, n: u32)
     requires some { 0 < n }
-    requires history { IsHistory 16 entries.old.items }
-    requires steps { step_count entries.old.items + n ≤ 100000000 }
+    requires history { IsHistory device_limit entries.old.items }
+    requires steps { step_count entries.old.items + n ≤ step_limit }
     requires room { length (with_steps n entries.old.items) ≤ vec_capacity entries.old }
     ensures items { entries.new.items ≡ with_steps n entries.old.items }
     ensures capacity { vec_capacity entries.new ≡ vec_capacity entries.old }

@@ -8,6 +8,7 @@ ghost use Rattle.event_log.specs.LogIn.{is_history, lines_of, log_in};
 ghost use Rattle.event_log.specs.Logged.{logged};
 ghost use Rattle.event_log.specs.Reading.{TextsApart, NoBadLine, OneBadLine, ReadsBack, SaysTrue};
 ghost use Rattle.event_log.specs.Text.{line_of, text_of};
+ghost use Rattle.tx_types.specs.Limits.{device_limit, step_limit, interrupt_limit};
 ghost use Rattle.event_log.specs.declared.entry.Entry.{Entry};
 ghost use Rattle.event_log.specs.declared.entry.Entry.TheVariants as entry;
 
@@ -85,11 +86,11 @@ pub fn an_interrupt_closes_an_entry()
 /// number of devices.
 pub fn a_history_stays_one()
     ensures step { (devices : ℕ) (es : List Entry) → is_history devices es ≡ true
-        → step_count es < 100000000 → is_history devices (with_step es) ≡ true }
+        → step_count es < step_limit → is_history devices (with_step es) ≡ true }
     ensures steps { (devices n : ℕ) (es : List Entry) → is_history devices es ≡ true
-        → step_count es + n ≤ 100000000 → is_history devices (with_steps n es) ≡ true }
+        → step_count es + n ≤ step_limit → is_history devices (with_steps n es) ≡ true }
     ensures irq { (devices d w : ℕ) (es : List Entry) → is_history devices es ≡ true
-        → d < devices → w < 2 ^ 32 → irq_count es < 65536
+        → d < devices → w < 2 ^ 32 → irq_count es < interrupt_limit
         → is_history devices (with_irq d w es) ≡ true }
     ensures prefix { (devices : ℕ) (es after : List Entry) →
         is_history devices (es ++ after) ≡ true → is_history devices es ≡ true }
@@ -99,13 +100,15 @@ pub fn a_history_stays_one()
 
 /// The lines of a history's text are those of its entries, one each, whatever follows the text.
 pub fn a_text_falls_into_its_lines()
-    ensures { (devices : ℕ) (es : List Entry) (rest : List ℕ) → devices ≤ 16 → IsHistory devices es
+    ensures { (devices : ℕ) (es : List Entry) (rest : List ℕ) → devices ≤ device_limit
+        → IsHistory devices es
         → lines_of (text_of es ++ rest) ≡ map line_of es ++ lines_of rest }
 {}
 
 /// Where a run's text is the text of a history, the line `report`, and anything after it, the lines
 /// before the first line `report` are read as that history.
 pub fn a_log_is_read_out_of_a_run()
-    ensures { (devices : ℕ) (es : List Entry) (more : List ℕ) → devices ≤ 16 → IsHistory devices es
+    ensures { (devices : ℕ) (es : List Entry) (more : List ℕ) → devices ≤ device_limit
+        → IsHistory devices es
         → logged devices (text_of es ++ (codes "report\n" ++ more)) ≡ es }
 {}

@@ -5,13 +5,14 @@
 ghost use Rattle.std.specs.Prelude.{◌≡◌, ◌≤◌, ◌∷◌, ◌++◌, [], List, Ok, IfOk};
 ghost use Rattle.event_log.specs.Events.{Event, events_of};
 ghost use Rattle.event_log.specs.Plain.{counts_of};
+ghost use Rattle.tx_types.specs.Limits.{step_limit, interrupt_limit};
 
 use crate::history::History;
 use crate::replayer::Replayer;
-use board_values::{DevNo, Report, Rows, Totals};
+use board_values::{DevNo, Report, Rows};
 use std::alloc::Global;
 use std::marker::Model;
-use tx_types::NoMemory;
+use tx_types::{NoMemory, Totals};
 
 /// A replayer that keeps the events made on it, and has nothing else of a board.
 #[derive(Drop)]
@@ -25,13 +26,14 @@ impl Model for PlainReplayer {
     ghost use Rattle.event_log.specs.Log.{step_count, irq_count};
     ghost use Rattle.event_log.specs.Events.{events_of};
     ghost use Rattle.event_log.specs.Plain.{Made};
+    ghost use Rattle.tx_types.specs.Limits.{step_limit};
 
     ghost Value = { Made };
 
     ghost view = { λ r. record {
       events = events_of r.made.entries;
       devices = r.devices;
-      steps_left = 100000000 - step_count r.made.entries;
+      steps_left = step_limit - step_count r.made.entries;
       irqs_left = r.made.irqs - irq_count r.made.entries;
     } };
 }
@@ -40,11 +42,11 @@ impl PlainReplayer {
     /// A replayer with the given number of devices on which no event was made, with room for
     /// 100,000,000 steps and the given number of interrupts.
     pub fn new(alloc: Global, devices: u8, irqs: u32) -> Result<PlainReplayer, NoMemory>
-        requires { irqs ≤ 65536 }
+        requires { irqs ≤ interrupt_limit }
         ensures { IfOk result (λ r. r ≡ record {
           events = [];
           devices = devices;
-          steps_left = 100000000;
+          steps_left = step_limit;
           irqs_left = irqs;
         }) }
     {
@@ -97,14 +99,7 @@ impl Replayer for PlainReplayer {
             running: None,
             held: Rows::new(Vec::new(alloc)),
             ready: Rows::new(Vec::new(alloc)),
-            totals: Totals {
-                begun: 0,
-                satisfied: 0,
-                timed_out: 0,
-                aborted: 0,
-                deleted: 0,
-                gone: 0,
-            },
+            totals: Totals::NONE,
             modules: Rows::new(Vec::new(alloc)),
             threads: Rows::new(Vec::new(alloc)),
             objects: Rows::new(Vec::new(alloc)),

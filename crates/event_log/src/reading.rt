@@ -8,6 +8,7 @@ ghost use Rattle.event_log.specs.Log.{IsEntry, IsHistory, steps_in};
 ghost use Rattle.event_log.specs.LogIn.{log_in};
 ghost use Rattle.event_log.specs.Reading.{Answers, IsReadAs, IsRefusedAt};
 ghost use Rattle.event_log.specs.Text.{line_of, numbers_of, Ends, GoesOn, IsLogText, IsBadLine, TellsBadLine};
+ghost use Rattle.tx_types.specs.Limits.{device_limit, interrupt_limit};
 ghost use Rattle.event_log.specs.declared.entry.Entry.{Entry};
 ghost use Rattle.event_log.specs.declared.entry.Entry.TheVariants.{Irq};
 
@@ -40,9 +41,9 @@ impl From<tx_types::NoMemory> for LogErr {
 /// The history whose text the bytes are, on a board with the given number of devices, with room for
 /// 65,536 interrupts.
 pub fn read_log(alloc: Global, bytes: &[u8], devices: u8) -> Result<History, LogErr>
-    requires { devices ≤ 16 }
+    requires { devices ≤ device_limit }
     ensures good { IfOk result (λ h. IsLogText devices h.entries bytes.now) }
-    ensures room { IfOk result (λ h. h.irqs ≡ 65536) }
+    ensures room { IfOk result (λ h. h.irqs ≡ interrupt_limit) }
     ensures bad { IfErr result (TellsBadLine devices bytes.now) }
     ensures means { Answers (log_in devices bytes.now) result }
     ensures each_history { (es : List Entry) → IsLogText devices es bytes.now → IsReadAs es result }
@@ -54,9 +55,9 @@ pub fn read_log(alloc: Global, bytes: &[u8], devices: u8) -> Result<History, Log
 
 /// Reads line by line, up to the first bad one.
 fn read_lines(alloc: Global, bytes: &[u8], devices: u8) -> Result<History, LogErr>
-    requires { devices ≤ 16 }
+    requires { devices ≤ device_limit }
     ensures good { IfOk result (λ h. IsLogText devices h.entries bytes.now) }
-    ensures room { IfOk result (λ h. h.irqs ≡ 65536) }
+    ensures room { IfOk result (λ h. h.irqs ≡ interrupt_limit) }
     ensures bad { IfErr result (TellsBadLine devices bytes.now) }
 {
     let mut history = History::reserve(alloc, MOST_IRQS)?;
@@ -90,7 +91,7 @@ fn number(digits: &[u8], radix: u32) -> u32
 
 /// The interrupt that the numbers of a line may be.
 fn irq_guess(numbers: &[u8]) -> Option<Entry>
-    ensures { (d w : ℕ) → d < 16 → w < 2 ^ 32 → numbers.now ≡ numbers_of (Irq d w)
+    ensures { (d w : ℕ) → d < device_limit → w < 2 ^ 32 → numbers.now ≡ numbers_of (Irq d w)
         → result ≡ Some (Irq d w) }
 {
     if numbers.len() < 9 {
@@ -108,7 +109,7 @@ fn irq_guess(numbers: &[u8]) -> Option<Entry>
 
 /// The entry that a line may be.
 fn guess(line: &[u8]) -> Option<Entry>
-    ensures { (e : Entry) → IsEntry 16 e → steps_in e < 2 ^ 32 → line.now ≡ line_of e
+    ensures { (e : Entry) → IsEntry device_limit e → steps_in e < 2 ^ 32 → line.now ≡ line_of e
         → result ≡ Some e }
 {
     if line.len() < 3 {
@@ -124,7 +125,7 @@ fn guess(line: &[u8]) -> Option<Entry>
 
 /// The entry whose line this is.
 fn line_entry(line: &[u8], devices: u8) -> Option<Entry>
-    requires { devices ≤ 16 }
+    requires { devices ≤ device_limit }
     ensures some { IfSome result (λ e. IsEntry devices e × (line.now ≡ line_of e)) }
     ensures found { (e : Entry) → IsEntry devices e → steps_in e < 2 ^ 32 → line.now ≡ line_of e
         → result ≡ Some e }
@@ -168,7 +169,7 @@ fn newline(text: &[u8]) -> Option<usize>
 
 /// The entry of the line that a text begins with, where it may come next, and that line's length.
 fn next_entry(history: &History, text: &[u8], devices: u8) -> Option<(Entry, usize)>
-    requires { devices ≤ 16 }
+    requires { devices ≤ device_limit }
     ensures { MatchOption result (Ends devices history.now.entries text.now)
         (λ p. GoesOn devices history.now.entries text.now p.0 p.1) }
 {

@@ -8,12 +8,12 @@ ghost use Rattle.board_report.specs.Printable.{IsNumbers, IsPrintable};
 use board_report::{lines, report_line};
 use board_values::{
     DeviceRow, DeviceRows, FaultRow, ModuleRow, ModuleRows, Nums, ObjectRow, ObjectRows, Report,
-    Rows, ShowRow, ShowRows, ThreadRow, ThreadRows, Totals,
+    Rows, ShowRow, ShowRows, ThreadRow, ThreadRows,
 };
 use std::alloc::{AllocError, Global};
 use std::process::Abort;
 use std::test::Fail;
-use tx_types::{Line, Name};
+use tx_types::{Line, Name, Totals};
 
 /// No thread is ready.
 const IDLE: &str = "report
@@ -175,14 +175,7 @@ fn blank(alloc: Global) -> Report {
         running: None,
         held: Rows::new(Vec::new(alloc)),
         ready: Rows::new(Vec::new(alloc)),
-        totals: Totals {
-            begun: 0,
-            satisfied: 0,
-            timed_out: 0,
-            aborted: 0,
-            deleted: 0,
-            gone: 0,
-        },
+        totals: Totals::NONE,
         modules: Rows::new(Vec::new(alloc)),
         threads: Rows::new(Vec::new(alloc)),
         objects: Rows::new(Vec::new(alloc)),

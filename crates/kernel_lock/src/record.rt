@@ -3,6 +3,7 @@
 //!
 //! These are functions over the parts of the core, since between two writes the parts don't agree.
 ghost use Rattle.std.specs.Prelude.{◌≡◌, ◌+◌, ◌<◌, length, IsTrue, MatchBool};
+ghost use Rattle.tx_types.specs.Limits.{step_limit};
 ghost use Rattle.event_log.specs.Log.{closed, irq_count, step_count, with_irq};
 ghost use Rattle.kernel_lock.specs.Turn.{after_turn};
 ghost use Rattle.kernel_lock.specs.declared.turn.Turn.TheVariants.{Stepped, Idle};
@@ -52,7 +53,7 @@ pub(crate) fn record_irq<R: Wait>(
 
 /// Makes a step, where one may be made; else nothing.
 pub(crate) fn step_where(machine: &mut Machine, may_step: bool) -> Turn
-    requires { IsTrue may_step → step_count machine.old.history < 100000000 }
+    requires { IsTrue may_step → step_count machine.old.history < step_limit }
     ensures answer { MatchBool may_step (result ≡ Stepped) (result ≡ Idle) }
     ensures machine { machine.new
         ≡ record machine.old { history = after_turn machine.old.history result } }

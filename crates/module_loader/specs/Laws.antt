@@ -34,7 +34,8 @@ IsFree free a = (r : Range) × Contains free r × Has r a
 abbrev pub piece_of : Taken → ℕ → Range
 piece_of t size = record { base = t.base; size = size }
 
--- they lie in it at a multiple of 32; what stays free is the rest of it, all the rest, and ascends again
+-- they lie in it at a multiple of 32; what stays free is the rest of it, all the rest, and ascends
+-- again
 pub record IsTakenApart (free : List Range) (size : ℕ) (t : Taken) : Type 0 where
   pub aligned : t.base % 32 ≡ 0
   pub inside : LiesIn free (piece_of t size)
@@ -45,14 +46,16 @@ pub record IsTakenApart (free : List Range) (size : ℕ) (t : Taken) : Type 0 wh
 
 abbrev pub TakenLiesApart : Type 0
 TakenLiesApart =
-    (size : ℕ) (free : List Range) (t : Taken) → Ascends free → taken size free ≡ Some t → IsTakenApart free size t
+    (size : ℕ) (free : List Range) (t : Taken) → Ascends free → taken size free ≡ Some t
+    → IsTakenApart free size t
 
 -- the memory of placed modules: the code and the data of each
 abbrev pub pieces : List Want → List Placed → List Range
 pieces [] places = []
 pieces (w ∷ wants) [] = []
 pieces (w ∷ wants) (p ∷ places) =
-    record { base = p.code_base; size = w.code } ∷ record { base = p.data_base; size = w.data_bytes } ∷ pieces wants places
+    record { base = p.code_base; size = w.code }
+    ∷ record { base = p.data_base; size = w.data_bytes } ∷ pieces wants places
 
 -- each piece lies in the free memory, at a multiple of 32, and no two have an address in common
 pub record LieApart (free placed : List Range) : Type 0 where

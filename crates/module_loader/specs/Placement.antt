@@ -41,7 +41,8 @@ in_front r (Some t) = Some (record t { free = r ∷ t.free })
 abbrev pub taken : ℕ → List Range → Option Taken
 taken size [] = None
 taken size (r ∷ free) =
-    if holds size r then Some (record { base = place_in r; free = left size r ++ free }) else in_front r (taken size free)
+    if holds size r then Some (record { base = place_in r; free = left size r ++ free })
+    else in_front r (taken size free)
 
 -- where one module lies, and what stays free
 pub record PlacedOne : Type 0 where
@@ -52,7 +53,10 @@ pub record PlacedOne : Type 0 where
 abbrev pub with_data : ℕ → Option Taken → Option PlacedOne
 with_data code_base None = None
 with_data code_base (Some data_taken) =
-    Some (record { placed = record { code_base = code_base; data_base = data_taken.base }; free = data_taken.free })
+    Some (record {
+      placed = record { code_base = code_base; data_base = data_taken.base };
+      free = data_taken.free;
+    })
 
 -- a module whose code was taken takes its data of what stays free
 abbrev pub with_code : Want → Option Taken → Option PlacedOne
@@ -69,7 +73,8 @@ before_others p (Ok others) = Ok (p ∷ others)
 before_others p (Err i) = Err (i + 1)
 
 -- a module was placed, and the later ones are placed in what stays free; or it finds no room
-abbrev pub and_others : (List Range → Result (List Placed) ℕ) → Option PlacedOne → Result (List Placed) ℕ
+abbrev pub and_others : (List Range → Result (List Placed) ℕ) → Option PlacedOne
+    → Result (List Placed) ℕ
 and_others others None = Err 0
 and_others others (Some one) = before_others one.placed (others one.free)
 

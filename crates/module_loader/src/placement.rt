@@ -102,7 +102,8 @@ fn take(free: &mut Vec<Range>, size: u32) -> Result<Option<u32>, AllocError>
 /// Takes memory for one module's code, and then for its data.
 fn take_both(free: &mut Vec<Range>, want: &Want) -> Result<Option<Placed>, AllocError>
     requires { IsAddressable free.old.items }
-    ensures placed { IfOk result (λ p. IsPlacedOne (placed_one free.old.items want.now) p free.new.items) }
+    ensures placed { IfOk result
+        (λ p. IsPlacedOne (placed_one free.old.items want.now) p free.new.items) }
     ensures addressable { OnOk result (IsAddressable free.new.items) }
 {
     let Some(code_base) = take(free, want.code)? else {

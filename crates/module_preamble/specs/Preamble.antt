@@ -1,11 +1,24 @@
 -- The rules of a module preamble as a table in the order in which they are tested, and what reading
--- an image gives (ThreadX Modules User Guide, "Module Preamble"; the bounds on sizes are this board's).
+-- an image gives (ThreadX Modules User Guide, "Module Preamble"; the bounds on sizes are this
+-- board's).
 use Rattle.std.specs.Prelude.{◌≡◌, ℕ, ◌%◌, ◌<◌, ◌≤◌, ◌==◌, nat_lt, nat_le, Bool, IsTrue, not, ◌&&◌, ◌||◌, if◌then◌else◌, List, [], ◌∷◌, ◌++◌, length, Result, Ok, Err}
 use Rattle.std.specs.Int.{bit_at}
+use Rattle.tx_types.specs.Limits.{priority_count}
 use Rattle.module_preamble.specs.Words.{words_of, has_callback}
 use Rattle.module_preamble.specs.declared.words.Preamble.{Preamble}
 use Rattle.module_preamble.specs.declared.refusal.PreErr.{PreErr}
 use Rattle.module_preamble.specs.declared.refusal.PreErr.TheVariants.{Short, BadId, BadMajor, BadSize, BadProps, BadCode, BadData, BadEntry, BadPrio, BadStack}
+
+-- words of a preamble, as its fourth word says
+abbrev pub preamble_words : ℕ
+preamble_words = 32
+
+-- bytes of a stack, at least and at most
+abbrev pub least_stack : ℕ
+least_stack = 64
+
+abbrev pub most_stack : ℕ
+most_stack = 65536
 
 -- a rule: whether it holds, and the refusal where it doesn't
 pub record Rule : Type 0 where
@@ -15,7 +28,8 @@ pub record Rule : Type 0 where
 abbrev pub rule : Bool → PreErr → Rule
 rule holds refusal = record { holds = holds; refusal = refusal }
 
--- a value that a table of rules judges: the refusal of the first rule that doesn't hold, else the value
+-- a value that a table of rules judges: the refusal of the first rule that doesn't hold, else the
+-- value
 unfoldable pub judged : {X : Type 0} → List Rule → X → Result X PreErr
 judged [] x = Ok x
 judged (r ∷ rules) x = if r.holds then judged rules x else Err r.refusal
@@ -30,18 +44,19 @@ is_optional_entry p w = (w == 0) || is_entry p w
 
 -- a size that a stack may have
 abbrev pub is_stack : ℕ → Bool
-is_stack w = nat_le 64 w && nat_le w 65536
+is_stack w = nat_le least_stack w && nat_le w most_stack
 
 -- an image has room for a preamble
 unfoldable pub length_rules : List ℕ → List Rule
 length_rules bytes = rule (nat_le 128 (length bytes)) (Short (length bytes)) ∷ []
 
--- the preamble is that of a module in a known version, which runs in user mode under memory protection
+-- the preamble is that of a module in a known version, which runs in user mode under memory
+-- protection
 unfoldable pub identity_rules : Preamble → List Rule
 identity_rules p =
     rule (p.id == 0x4D4F4455) (BadId p.id)
     ∷ rule (nat_le 1 p.major && nat_le p.major 6) (BadMajor p.major)
-    ∷ rule (p.words == 32) (BadSize p.words)
+    ∷ rule (p.words == preamble_words) (BadSize p.words)
     ∷ rule ((bit_at p.props 0 == 1) && (bit_at p.props 1 == 1)) (BadProps p.props)
     ∷ []
 
@@ -64,8 +79,9 @@ entry_rules p =
 -- the callback thread's priority is looked at where there is one
 unfoldable pub priority_rules : Preamble → List Rule
 priority_rules p =
-    rule (nat_lt p.start_prio 32) (BadPrio 0 p.start_prio)
-    ∷ rule (not (has_callback p) || nat_lt p.callback_prio 32) (BadPrio 1 p.callback_prio)
+    rule (nat_lt p.start_prio priority_count) (BadPrio 0 p.start_prio)
+    ∷ rule (not (has_callback p) || nat_lt p.callback_prio priority_count)
+    (BadPrio 1 p.callback_prio)
     ∷ []
 
 -- and so is its stack
@@ -79,7 +95,8 @@ stack_rules p =
 unfoldable pub rules : List ℕ → List Rule
 rules bytes =
     let p = words_of bytes in
-    length_rules bytes ++ (identity_rules p ++ (size_rules (length bytes) p ++ (entry_rules p ++ (priority_rules p ++ stack_rules p))))
+    length_rules bytes ++ (identity_rules p ++ (size_rules (length bytes) p
+    ++ (entry_rules p ++ (priority_rules p ++ stack_rules p))))
 
 -- what reading an image gives: its words, or the refusal of the first rule that doesn't hold
 unfoldable pub preamble : List ℕ → Result Preamble PreErr
@@ -93,8 +110,8 @@ pub record IsEntry (p : Preamble) (w : ℕ) : Type 0 where
 
 -- a stack may have this size
 pub record IsStack (size : ℕ) : Type 0 where
-  pub least : 64 ≤ size
-  pub most : size ≤ 65536
+  pub least : least_stack ≤ size
+  pub most : size ≤ most_stack
 
 -- what the layers above rely on in an accepted image with these words
 pub record IsAccepted (bytes : List ℕ) (p : Preamble) : Type 0 where
@@ -105,7 +122,7 @@ pub record IsAccepted (bytes : List ℕ) (p : Preamble) : Type 0 where
   pub shell : IsEntry p p.shell
   pub start : IsEntry p p.start
   pub callback : IsTrue (has_callback p) → IsEntry p p.callback
-  pub start_prio : p.start_prio < 32
-  pub callback_prio : IsTrue (has_callback p) → p.callback_prio < 32
+  pub start_prio : p.start_prio < priority_count
+  pub callback_prio : IsTrue (has_callback p) → p.callback_prio < priority_count
   pub start_stack : IsStack p.start_stack
   pub callback_stack : IsTrue (has_callback p) → IsStack p.callback_stack

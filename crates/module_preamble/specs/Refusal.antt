@@ -1,4 +1,5 @@
--- What is printed of a refusal: its name, then its number in decimal, then its word, where it has them.
+-- What is printed of a refusal: its name, then its number in decimal, then its word, where it has
+-- them.
 use Rattle.std.specs.Prelude.{ℕ, List, Option, Some, None, codes}
 use Rattle.module_preamble.specs.declared.refusal.PreErr.{PreErr}
 use Rattle.module_preamble.specs.declared.refusal.PreErr.TheVariants.{Short, BadId, BadMajor, BadSize, BadProps, BadCode, BadData, BadEntry, BadPrio, BadStack}

@@ -1,7 +1,7 @@
 //! The rules of a preamble, one function for each group of the table in specs/Preamble.
 //!
 //! Each answers the refusal of the first rule of its group that doesn't hold. The bounds of the
-//! format stand here by name; the definitions have the numbers themselves.
+//! format stand here as constants; the definitions have names and numbers of their own.
 
 ghost use Rattle.std.specs.Prelude.{◌≡◌, ◌<◌, ◌≤◌, ◌==◌, length, if◌then◌else◌, Ok, Err, OnOk};
 ghost use Rattle.std.specs.Int.{bit_at};

@@ -62,7 +62,8 @@ CallsKeepTheTable = (t : List Slot) (c : Call) → IsTable t → MayCall t c →
 
 abbrev pub GenerationsNeverFall : Type 0
 GenerationsNeverFall =
-    (t : List Slot) (c : Call) (o : ℕ) → MayCall t c → (slot t o).generation ≤ (slot (called t c) o).generation
+    (t : List Slot) (c : Call) (o : ℕ) → MayCall t c
+    → (slot t o).generation ≤ (slot (called t c) o).generation
 
 -- as a slot is freed, each reference to it at its generation or a lower one is dead
 abbrev pub FreeEndsReferences : Type 0
@@ -72,15 +73,19 @@ FreeEndsReferences =
 
 -- a dead reference stays so, whatever is called, and nobody finds anything by it
 abbrev pub DeadStaysDead : Type 0
-DeadStaysDead = (t : List Slot) (r : ℕ) (c : Call) → MayCall t c → IsDead t r → IsDead (called t c) r
+DeadStaysDead =
+    (t : List Slot) (r : ℕ) (c : Call) → MayCall t c → IsDead t r → IsDead (called t c) r
 
 abbrev pub DeadFindsNothing : Type 0
 DeadFindsNothing =
     (t : List Slot) (r m : ℕ) (k : Kind) → IsDead t r
     → (named_slot t r (is_live_for m k) ≡ None) × (named_slot t r (is_empty_for m k) ≡ None)
 
--- the whole law: once the object that a reference resolves to has its slot freed, no one resolves it again
+-- the whole law: once the object that a reference resolves to has its slot freed, no one resolves
+-- it again
 abbrev pub ReferenceDiesWithItsSlot : Type 0
 ReferenceDiesWithItsSlot =
-    (t : List Slot) (r m o : ℕ) (k : Kind) (cs : List Call) (n : ℕ) (l : Kind) → IsTable t → named_slot t r (is_live_for m k) ≡ Some o
-    → MayCallAll (after_free t o) cs → named_slot (all_called (after_free t o) cs) r (is_live_for n l) ≡ None
+    (t : List Slot) (r m o : ℕ) (k : Kind) (cs : List Call) (n : ℕ) (l : Kind) → IsTable t
+    → named_slot t r (is_live_for m k) ≡ Some o
+    → MayCallAll (after_free t o) cs
+    → named_slot (all_called (after_free t o) cs) r (is_live_for n l) ≡ None

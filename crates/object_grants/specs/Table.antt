@@ -1,6 +1,7 @@
--- The table of 256 kernel object slots, what a reference names in it, and what each call leaves of it.
+-- The table of kernel object slots, what a reference names in it, and what each call leaves of it.
 use Rattle.std.specs.Prelude.{ℕ, ◌≡◌, ◌+◌, ◌==◌, ◌&&◌, Bool, List, [], length, All, position, slice_set, Option, None, Some, bit_or, ◌^◌, if◌then◌else◌}
 use Rattle.std.specs.List.{slice_index_or}
+use Rattle.tx_types.specs.Limits.{slot_limit}
 use Rattle.tx_types.specs.Reference.{reference, slot_of, generation_of}
 use Rattle.tx_types.specs.declared.kind.Kind.{Kind}
 use Rattle.object_grants.specs.Slot.{IsSlot, is_usable, is_own_empty, free_slot, without_grant}
@@ -9,7 +10,7 @@ use Rattle.object_grants.specs.declared.slot.SlotState.TheVariants.{Empty, Live}
 
 -- what holds of every table
 pub record IsTable (slots : List Slot) : Type 0 where
-  pub size : length slots ≡ 256
+  pub size : length slots ≡ slot_limit
   pub each : All IsSlot slots
 
 -- the slot of a number
@@ -38,7 +39,14 @@ with_slot slots o s = slice_set slots o s
 -- the lowest usable slot is allocated, at the next generation
 abbrev pub allocated : ℕ → Kind → Slot → Slot
 allocated m k s =
-    record s { state = Empty; generation = s.generation + 1; kind = Some k; owner = m; grants = 0; name = [] }
+    record s {
+      state = Empty;
+      generation = s.generation + 1;
+      kind = Some k;
+      owner = m;
+      grants = 0;
+      name = [];
+    }
 
 abbrev pub allocated_at : List Slot → ℕ → Kind → Option ℕ → List Slot
 allocated_at slots m k None = slots
@@ -49,11 +57,13 @@ after_allocate slots m k = allocated_at slots m k (position is_usable slots)
 
 -- the object is created, with a name
 abbrev pub after_make_live : List Slot → ℕ → List ℕ → List Slot
-after_make_live slots o name = with_slot slots o (record (slot slots o) { state = Live; name = name })
+after_make_live slots o name =
+    with_slot slots o (record (slot slots o) { state = Live; name = name })
 
 -- the object is deleted: its grants and its name end
 abbrev pub after_make_empty : List Slot → ℕ → List Slot
-after_make_empty slots o = with_slot slots o (record (slot slots o) { state = Empty; grants = 0; name = [] })
+after_make_empty slots o =
+    with_slot slots o (record (slot slots o) { state = Empty; grants = 0; name = [] })
 
 -- the slot is Free; all but its generation ends
 abbrev pub after_free : List Slot → ℕ → List Slot
@@ -61,7 +71,8 @@ after_free slots o = with_slot slots o (free_slot (slot slots o).generation)
 
 -- an Empty slot of module m's own is freed by its reference
 abbrev pub after_deallocate : List Slot → ℕ → ℕ → List Slot
-after_deallocate slots m r = if named slots r (is_own_empty m) then after_free slots (slot_of r) else slots
+after_deallocate slots m r =
+    if named slots r (is_own_empty m) then after_free slots (slot_of r) else slots
 
 -- module m is granted the object
 abbrev pub after_grant : List Slot → ℕ → ℕ → List Slot

@@ -4,6 +4,7 @@
 //! `empty`; the calls that take a reference are the tests themselves.
 ghost use Rattle.std.specs.Prelude.{◌≡◌, ◌<◌, true, false, replicate, position, IfOk, IfSome};
 ghost use Rattle.std.specs.Option.{option_map};
+ghost use Rattle.tx_types.specs.Limits.{slot_limit};
 ghost use Rattle.object_grants.specs.Slot.{IsSlot, is_in, is_usable, is_own_empty, is_empty_for, is_live_for, has_name, owns, free_slot, last_generation};
 ghost use Rattle.object_grants.specs.Table.{IsTable, slot, ref_of, named, named_slot, with_slot, after_allocate, after_make_live, after_make_empty, after_free, after_deallocate, after_grant, after_revoke};
 ghost use Rattle.object_grants.specs.declared.slot.SlotState.TheVariants.{Free};
@@ -35,7 +36,7 @@ impl Model for Objects {
 impl Objects {
     /// All slots Free, at generation 0.
     pub fn new(alloc: Global) -> Result<Objects, NoMemory>
-        ensures { IfOk result (λ t. t ≡ replicate 256 (free_slot 0)) }
+        ensures { IfOk result (λ t. t ≡ replicate slot_limit (free_slot 0)) }
     {
         let mut slots = Vec::with_capacity(alloc, usize::from(SLOTS))?;
         for _ in 0..SLOTS {

@@ -10,7 +10,8 @@ pub record SameNumbers (s now : Sched) : Type 0 where
   pub priority : now.priority ≡ s.priority
   pub threshold : now.threshold ≡ s.threshold
 
--- Ready adds its thread to the ready ones, Unready takes it away, and no other move changes which threads are ready
+-- Ready adds its thread to the ready ones, Unready takes it away, and no other move changes which
+-- threads are ready
 abbrev pub ReadyAddsOne : Type 0
 ReadyAddsOne = (s : Sched) (t u : ℕ) → is_ready (readied s t) u ≡ (u == t) || is_ready s u
 
@@ -26,7 +27,8 @@ ThresholdKeepsReady =
 
 abbrev pub PriorityKeepsReady : Type 0
 PriorityKeepsReady =
-    (s : Sched) (t priority threshold u : ℕ) → IsKept s → is_ready (priority_set s t priority threshold) u ≡ is_ready s u
+    (s : Sched) (t priority threshold u : ℕ) → IsKept s
+    → is_ready (priority_set s t priority threshold) u ≡ is_ready s u
 
 -- Ready, Unready and Yield change no number; the others change those of their thread alone
 abbrev pub ReadyKeepsNumbers : Type 0
@@ -40,8 +42,14 @@ YieldKeepsNumbers = (s : Sched) → SameNumbers s (yielded s)
 
 abbrev pub ThresholdSetsNumbers : Type 0
 ThresholdSetsNumbers =
-    (s : Sched) (t threshold : ℕ) → SameNumbers (record s { threshold = slice_set s.threshold t threshold }) (threshold_set s t threshold)
+    (s : Sched) (t threshold : ℕ)
+    → SameNumbers (record s { threshold = slice_set s.threshold t threshold })
+    (threshold_set s t threshold)
 
 abbrev pub PrioritySetsNumbers : Type 0
 PrioritySetsNumbers =
-    (s : Sched) (t priority threshold : ℕ) → SameNumbers (record s { priority = slice_set s.priority t priority; threshold = slice_set s.threshold t threshold }) (priority_set s t priority threshold)
+    (s : Sched) (t priority threshold : ℕ)
+    → SameNumbers (record s {
+      priority = slice_set s.priority t priority;
+      threshold = slice_set s.threshold t threshold;
+    }) (priority_set s t priority threshold)

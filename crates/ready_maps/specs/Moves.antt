@@ -18,10 +18,12 @@ placed_first s t = record s { order = first_in (pr s) t s.order }
 abbrev pub holding : Sched → ℕ → Sched
 holding s t = if nat_lt (th s t) (pr s t) then record s { held = first_in (pr s) t s.held } else s
 
--- a ready thread runs where nothing does, or where its priority is below the running thread's threshold
+-- a ready thread runs where nothing does, or where its priority is below the running thread's
+-- threshold
 abbrev pub challenged : Sched → ℕ → Option ℕ → Sched
 challenged s t None = record s { run = Some t }
-challenged s t (Some r) = if nat_lt (pr s t) (th s r) then record (holding s r) { run = Some t } else s
+challenged s t (Some r) =
+    if nat_lt (pr s t) (th s r) then record (holding s r) { run = Some t } else s
 
 -- Ready: the thread goes last
 abbrev pub readied : Sched → ℕ → Sched
@@ -42,7 +44,8 @@ yielded s = yielded_by s s.run
 -- the running thread gives way to the best one, where that has a priority below its threshold
 abbrev pub giving_way : Sched → ℕ → Option ℕ → Sched
 giving_way s t None = s
-giving_way s t (Some b) = if nat_lt (pr s b) (th s t) then record (holding s t) { run = Some b } else s
+giving_way s t (Some b) =
+    if nat_lt (pr s b) (th s t) then record (holding s t) { run = Some b } else s
 
 -- a threshold at the priority itself holds nothing
 abbrev pub released : Sched → ℕ → Sched
@@ -59,12 +62,16 @@ threshold_set s t threshold =
 
 abbrev pub with_numbers : Sched → ℕ → ℕ → ℕ → Sched
 with_numbers s t priority threshold =
-    record s { priority = slice_set s.priority t priority; threshold = slice_set s.threshold t threshold }
+    record s {
+      priority = slice_set s.priority t priority;
+      threshold = slice_set s.threshold t threshold;
+    }
 
 -- the thread that ran goes first and is preempted, but after a holder of its priority it goes last
 abbrev pub placed_again : Sched → ℕ → Sched
 placed_again s t =
-    if list_any (λ k. pr s k == pr s t) s.held then placed_last s t else holding (placed_first s t) t
+    if list_any (λ k. pr s k == pr s t) s.held then placed_last s t
+    else holding (placed_first s t) t
 
 -- SetPr: a new priority and threshold; a ready thread that doesn't run is as readied anew
 abbrev pub priority_set : Sched → ℕ → ℕ → ℕ → Sched

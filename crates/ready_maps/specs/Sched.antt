@@ -1,10 +1,13 @@
--- The scheduler's state (ThreadX User Guide, "Preemption-Threshold"), and which thread is the next to run.
+-- The scheduler's state (ThreadX User Guide, "Preemption-Threshold"), and which thread is the next
+-- to run.
 use Rattle.std.specs.Prelude.{ℕ, ◌==◌, Bool, false, nat_le, nat_lt, not, List, ◌∷◌, ◌++◌, drop, slice_index, filter, find, Option, None, Some, if◌then◌else◌, [], replicate}
 use Rattle.std.specs.List.{slice_get, list_any, after_first}
 use Rattle.std.specs.Option.{option_map_or}
+use Rattle.tx_types.specs.Limits.{slot_limit}
 
--- Each thread has a priority, 0 the most urgent, and a threshold: a thread of a priority below it may preempt.
--- The holders are the ready threads that were preempted so, and that run again before others of their urgency.
+-- Each thread has a priority, 0 the most urgent, and a threshold: a thread of a priority below it
+-- may preempt. The holders are the ready threads that were preempted so, and that run again before
+-- others of their urgency.
 pub record Sched : Type 0 where
   pub levels : ℕ  -- how many priorities there are
   pub priority : List ℕ  -- by thread
@@ -17,8 +20,8 @@ pub record Sched : Type 0 where
 abbrev pub new_sched : ℕ → Sched
 new_sched levels = record {
   levels = levels;
-  priority = replicate 256 0;
-  threshold = replicate 256 0;
+  priority = replicate slot_limit 0;
+  threshold = replicate slot_limit 0;
   order = [];
   run = None;
   held = [];
@@ -43,7 +46,8 @@ abbrev pub last_in : (ℕ → ℕ) → ℕ → List ℕ → List ℕ
 last_in by t ts = filter (λ u. nat_le (by u) (by t)) ts ++ t ∷ filter (λ u. nat_lt (by t) (by u)) ts
 
 abbrev pub first_in : (ℕ → ℕ) → ℕ → List ℕ → List ℕ
-first_in by t ts = filter (λ u. nat_lt (by u) (by t)) ts ++ t ∷ filter (λ u. nat_le (by t) (by u)) ts
+first_in by t ts =
+    filter (λ u. nat_lt (by u) (by t)) ts ++ t ∷ filter (λ u. nat_le (by t) (by u)) ts
 
 abbrev pub is_ready : Sched → ℕ → Bool
 is_ready s t = has t s.order
@@ -65,11 +69,13 @@ after s t = find (λ u. pr s u == pr s t) (after_first (λ u. u == t) s.order)
 abbrev pub best : Sched → Option ℕ
 best s = slice_get s.order 0
 
--- The first holder runs again where no ready thread has a priority below its threshold, and else the best thread runs.
+-- The first holder runs again where no ready thread has a priority below its threshold, and else
+-- the best thread runs.
 abbrev pub picked_before : Sched → ℕ → Option ℕ → Sched
 picked_before s h None = record s { run = Some h }
 picked_before s h (Some k) =
-    if nat_le (th s k) (pr s h) then record s { run = Some k; held = drop 1 s.held } else record s { run = Some h }
+    if nat_le (th s k) (pr s h) then record s { run = Some k; held = drop 1 s.held }
+    else record s { run = Some h }
 
 abbrev pub picked : Sched → Option ℕ → Sched
 picked s None = record s { run = None }

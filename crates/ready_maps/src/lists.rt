@@ -5,6 +5,7 @@
 ghost use Rattle.std.specs.Prelude.{◌≡◌, ◌≢◌, ℕ, ◌+◌, ◌<◌, ◌≤◌, [], ◌∷◌, ◌++◌, All, AllPairs, length, replicate, insert, remove, nat_le, nat_lt, slice_index, slice_set, drop, fold, find, position, None, IfOk, vec_len, vec_capacity, ◌==◌};
 ghost use Rattle.std.specs.Option.{option_copied};
 ghost use Rattle.std.specs.List.{position_or_len, after_first, list_any};
+ghost use Rattle.tx_types.specs.Limits.{slot_limit};
 ghost use Rattle.ready_maps.specs.Sched.{has, without, last_in, first_in};
 
 use tx_types::{Prio, ThreadNo};
@@ -19,7 +20,7 @@ pub(crate) fn has(threads: &[ThreadNo], t: ThreadNo) -> bool
 /// A thread's priority.
 #[inline]
 pub(crate) fn priority_of(by: &[Prio], t: ThreadNo) -> Prio
-    requires table { length by.now ≡ 256 }
+    requires table { length by.now ≡ slot_limit }
     ensures { result ≡ slice_index by.now t }
 {
     by[t.place()]
@@ -28,7 +29,7 @@ pub(crate) fn priority_of(by: &[Prio], t: ThreadNo) -> Prio
 /// Whether a thread has this priority.
 #[inline]
 fn is_at(by: &[Prio], u: ThreadNo, priority: Prio) -> bool
-    requires table { length by.now ≡ 256 }
+    requires table { length by.now ≡ slot_limit }
     ensures { result ≡ (slice_index by.now u == priority) }
 {
     priority_of(by, u) == priority
@@ -37,7 +38,7 @@ fn is_at(by: &[Prio], u: ThreadNo, priority: Prio) -> bool
 /// Whether a thread's priority is above this one.
 #[inline]
 fn is_above(by: &[Prio], u: ThreadNo, priority: Prio) -> bool
-    requires table { length by.now ≡ 256 }
+    requires table { length by.now ≡ slot_limit }
     ensures { result ≡ nat_lt priority (slice_index by.now u) }
 {
     priority.number() < priority_of(by, u).number()
@@ -46,7 +47,7 @@ fn is_above(by: &[Prio], u: ThreadNo, priority: Prio) -> bool
 /// Whether a thread's priority is this one or above it.
 #[inline]
 fn is_from(by: &[Prio], u: ThreadNo, priority: Prio) -> bool
-    requires table { length by.now ≡ 256 }
+    requires table { length by.now ≡ slot_limit }
     ensures { result ≡ nat_le priority (slice_index by.now u) }
 {
     priority.number() <= priority_of(by, u).number()
@@ -54,7 +55,7 @@ fn is_from(by: &[Prio], u: ThreadNo, priority: Prio) -> bool
 
 /// Whether a thread of a priority stands in a list.
 pub(crate) fn has_priority(threads: &[ThreadNo], by: &[Prio], priority: Prio) -> bool
-    requires table { length by.now ≡ 256 }
+    requires table { length by.now ≡ slot_limit }
     ensures { result ≡ list_any (λ u. slice_index by.now u == priority) threads.now }
 {
     threads.iter().any(|u| is_at(by, *u, priority))
@@ -62,7 +63,7 @@ pub(crate) fn has_priority(threads: &[ThreadNo], by: &[Prio], priority: Prio) ->
 
 /// The first thread of a priority in a list.
 pub(crate) fn first_at(threads: &[ThreadNo], by: &[Prio], priority: Prio) -> Option<ThreadNo>
-    requires table { length by.now ≡ 256 }
+    requires table { length by.now ≡ slot_limit }
     ensures { result ≡ find (λ u. slice_index by.now u == priority) threads.now }
 {
     threads.iter().copied().find(|u| is_at(by, *u, priority))
@@ -77,7 +78,7 @@ pub(crate) fn place_of(threads: &[ThreadNo], t: ThreadNo) -> Option<usize>
 
 /// The first place of a priority above this one.
 pub(crate) fn place_above(threads: &[ThreadNo], by: &[Prio], priority: Prio) -> Option<usize>
-    requires table { length by.now ≡ 256 }
+    requires table { length by.now ≡ slot_limit }
     ensures { result ≡ position (λ u. nat_lt priority (slice_index by.now u)) threads.now }
 {
     threads.iter().position(|u| is_above(by, *u, priority))
@@ -85,7 +86,7 @@ pub(crate) fn place_above(threads: &[ThreadNo], by: &[Prio], priority: Prio) -> 
 
 /// The first place of this priority or one above it.
 pub(crate) fn place_from(threads: &[ThreadNo], by: &[Prio], priority: Prio) -> Option<usize>
-    requires table { length by.now ≡ 256 }
+    requires table { length by.now ≡ slot_limit }
     ensures { result ≡ position (λ u. nat_le priority (slice_index by.now u)) threads.now }
 {
     threads.iter().position(|u| is_from(by, *u, priority))
@@ -93,8 +94,9 @@ pub(crate) fn place_from(threads: &[ThreadNo], by: &[Prio], priority: Prio) -> O
 
 /// The first place of a priority above this one, or the end.
 fn last_place(threads: &[ThreadNo], by: &[Prio], priority: Prio) -> usize
-    requires table { length by.now ≡ 256 }
-    ensures value { result ≡ position_or_len (λ u. nat_lt priority (slice_index by.now u)) threads.now }
+    requires table { length by.now ≡ slot_limit }
+    ensures value { result ≡ position_or_len
+        (λ u. nat_lt priority (slice_index by.now u)) threads.now }
     ensures within { result ≤ length threads.now }
 {
     let end = threads.len();
@@ -103,8 +105,9 @@ fn last_place(threads: &[ThreadNo], by: &[Prio], priority: Prio) -> usize
 
 /// The first place of this priority or one above it, or the end.
 fn first_place(threads: &[ThreadNo], by: &[Prio], priority: Prio) -> usize
-    requires table { length by.now ≡ 256 }
-    ensures value { result ≡ position_or_len (λ u. nat_le priority (slice_index by.now u)) threads.now }
+    requires table { length by.now ≡ slot_limit }
+    ensures value { result ≡ position_or_len
+        (λ u. nat_le priority (slice_index by.now u)) threads.now }
     ensures within { result ≤ length threads.now }
 {
     let end = threads.len();
@@ -113,8 +116,9 @@ fn first_place(threads: &[ThreadNo], by: &[Prio], priority: Prio) -> usize
 
 /// Puts a thread in after those of its priority.
 pub(crate) fn put_last(threads: &mut Vec<ThreadNo>, by: &[Prio], t: ThreadNo)
-    requires table { length by.now ≡ 256 }
-    requires sorted { AllPairs (λ u v. slice_index by.now u ≤ slice_index by.now v) threads.old.items }
+    requires table { length by.now ≡ slot_limit }
+    requires sorted { AllPairs
+        (λ u v. slice_index by.now u ≤ slice_index by.now v) threads.old.items }
     requires room { vec_len threads.old < vec_capacity threads.old }
     ensures items { threads.new.items ≡ last_in (slice_index by.now) t threads.old.items }
     ensures same_room { vec_capacity threads.new ≡ vec_capacity threads.old }
@@ -125,8 +129,9 @@ pub(crate) fn put_last(threads: &mut Vec<ThreadNo>, by: &[Prio], t: ThreadNo)
 
 /// Puts a thread in before those of its priority.
 pub(crate) fn put_first(threads: &mut Vec<ThreadNo>, by: &[Prio], t: ThreadNo)
-    requires table { length by.now ≡ 256 }
-    requires sorted { AllPairs (λ u v. slice_index by.now u ≤ slice_index by.now v) threads.old.items }
+    requires table { length by.now ≡ slot_limit }
+    requires sorted { AllPairs
+        (λ u v. slice_index by.now u ≤ slice_index by.now v) threads.old.items }
     requires room { vec_len threads.old < vec_capacity threads.old }
     ensures items { threads.new.items ≡ first_in (slice_index by.now) t threads.old.items }
     ensures same_room { vec_capacity threads.new ≡ vec_capacity threads.old }
@@ -142,8 +147,9 @@ pub(crate) fn first_after(
     priority: Prio,
     t: ThreadNo,
 ) -> Option<ThreadNo>
-    requires table { length by.now ≡ 256 }
-    ensures { result ≡ find (λ u. slice_index by.now u == priority) (after_first (λ u. u == t) threads.now) }
+    requires table { length by.now ≡ slot_limit }
+    ensures { result ≡ find (λ u. slice_index by.now u == priority)
+        (after_first (λ u. u == t) threads.now) }
 {
     match place_of(threads, t) {
         Some(at) => first_at(&threads[at + 1..], by, priority),
@@ -180,10 +186,12 @@ pub(crate) fn take_first(threads: &mut Vec<ThreadNo>)
 
 /// Puts threads in one after another, each after those of its priority.
 pub(crate) fn put_all(threads: &mut Vec<ThreadNo>, by: &[Prio], more: &[ThreadNo])
-    requires table { length by.now ≡ 256 }
-    requires sorted { AllPairs (λ u v. slice_index by.now u ≤ slice_index by.now v) threads.old.items }
+    requires table { length by.now ≡ slot_limit }
+    requires sorted { AllPairs
+        (λ u v. slice_index by.now u ≤ slice_index by.now v) threads.old.items }
     requires room { vec_len threads.old + length more.now ≤ vec_capacity threads.old }
-    ensures items { threads.new.items ≡ fold (λ ts t. last_in (slice_index by.now) t ts) threads.old.items more.now }
+    ensures items { threads.new.items ≡ fold
+        (λ ts t. last_in (slice_index by.now) t ts) threads.old.items more.now }
     ensures same_room { vec_capacity threads.new ≡ vec_capacity threads.old }
 {
     for t in more {

@@ -4,6 +4,7 @@
 //! needs to know of the state is in its `requires`; the facts that last are kept a layer above.
 ghost use Rattle.std.specs.Prelude.{◌≡◌, ◌≢◌, ◌<◌, ◌≤◌, ◌==◌, [], All, length, replicate, slice_index, slice_set, slice_get, drop, false, None, Some, IfOk, IfSome};
 ghost use Rattle.std.specs.List.{list_any};
+ghost use Rattle.tx_types.specs.Limits.{slot_limit};
 ghost use Rattle.ready_maps.specs.Sched.{Sched, new_sched, pr, th, is_ready, is_held, runs, first_at, after, best, pick, picked_before, without, first_in};
 ghost use Rattle.ready_maps.specs.Moves.{readied, taken_out, placed_last, placed_first, holding, challenged, giving_way, released, with_threshold, with_numbers, placed_again, placed_all, restored};
 ghost use Rattle.ready_maps.specs.Kept.{IsLaidOut, IsKept};
@@ -26,6 +27,7 @@ pub(crate) struct State {
 
 impl Model for State {
     ghost use Rattle.std.specs.Prelude.{◌≡◌, ◌≤◌, length, vec_capacity};
+    ghost use Rattle.tx_types.specs.Limits.{slot_limit};
     ghost use Rattle.ready_maps.specs.Sched.{Sched};
 
     ghost Value = { Sched };
@@ -39,8 +41,9 @@ impl Model for State {
       held = r.held.items;
     } };
 
-    ghost invariant = { λ r. (length r.priority.items ≡ 256) × (length r.threshold.items ≡ 256)
-        × (256 ≤ vec_capacity r.order) × (256 ≤ vec_capacity r.held) };
+    ghost invariant = { λ r. (length r.priority.items ≡ slot_limit)
+        × (length r.threshold.items ≡ slot_limit)
+        × (slot_limit ≤ vec_capacity r.order) × (slot_limit ≤ vec_capacity r.held) };
 }
 
 impl State {
@@ -228,7 +231,8 @@ impl State {
     /// Thread t runs where nothing does, or preempts the running thread.
     pub(crate) fn challenge(&mut self, t: ThreadNo)
         requires laid_out { IsLaidOut self.old }
-        requires below { IfSome self.old.run (λ r. All (λ k. pr self.old r < pr self.old k) self.old.held) }
+        requires below { IfSome self.old.run
+            (λ r. All (λ k. pr self.old r < pr self.old k) self.old.held) }
         ensures { self.new ≡ challenged self.old t self.old.run }
     {
         match self.running() {
@@ -369,7 +373,7 @@ impl State {
     /// These threads go last of their priorities, one after another.
     fn place_all(&mut self, ready: &[ThreadNo])
         requires nothing_ready { self.old.order ≡ [] }
-        requires room { length ready.now ≤ 256 }
+        requires room { length ready.now ≤ slot_limit }
         ensures { self.new ≡ placed_all self.old ready.now }
     {
         lists::put_all(&mut self.order, &self.priority, ready);
@@ -377,7 +381,7 @@ impl State {
 
     /// This thread runs, and these are the holders.
     fn set_run(&mut self, run: Option<ThreadNo>, held: &[ThreadNo])
-        requires { length held.now ≤ 256 }
+        requires { length held.now ≤ slot_limit }
         ensures { self.new ≡ record self.old { run = run; held = held.now } }
     {
         self.run = run;

@@ -15,9 +15,21 @@ device_limit = 16
 abbrev pub show_limit : ℕ
 show_limit = 16
 
--- priorities of threads (ThreadX User Guide, TX_MAX_PRIORITIES)
+-- words that one of them shows
+abbrev pub cell_limit : ℕ
+cell_limit = 64
+
+-- priorities that a kernel may have (ThreadX User Guide, TX_MAX_PRIORITIES)
 abbrev pub priority_limit : ℕ
 priority_limit = 1024
+
+-- priorities that the board's kernel has
+abbrev pub priority_count : ℕ
+priority_count = 32
+
+-- bytes of an object's name
+abbrev pub name_limit : ℕ
+name_limit = 31
 
 -- words of a message (ThreadX User Guide, `tx_queue_create`)
 abbrev pub message_limit : ℕ

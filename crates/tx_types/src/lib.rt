@@ -17,7 +17,7 @@ mod waits;
 
 pub use code::Code;
 pub use kind::Kind;
-pub use line::{Line, put_decimal, put_hex};
+pub use line::{Line, put_decimal, put_hex, put_hex_byte, put_long, put_small};
 pub use message::Message;
 pub use name::Name;
 pub use no_memory::NoMemory;

@@ -2,6 +2,7 @@
 //!
 //! A message has room for sixteen words in itself, so nothing here takes memory.
 ghost use Rattle.std.specs.Prelude.{◌≡◌, ◌≤◌, ◌<◌, ◌∷◌, ◌++◌, [], length};
+ghost use Rattle.tx_types.specs.Limits.{message_limit};
 
 use arrayvec::ArrayVec;
 use std::marker::Model;
@@ -32,7 +33,7 @@ impl Message {
 
     /// The message of these words.
     pub fn from_words(words: &[u32]) -> Message
-        requires { length words.now ≤ 16 }
+        requires { length words.now ≤ message_limit }
         ensures { result ≡ words.now }
     {
         let mut message = Message::empty();
@@ -44,7 +45,7 @@ impl Message {
 
     /// Adds a word at the end.
     pub fn push(&mut self, w: u32)
-        requires { length self.old < 16 }
+        requires { length self.old < message_limit }
         ensures { self.new ≡ self.old ++ w ∷ [] }
     {
         self.words.push(w);
@@ -53,7 +54,7 @@ impl Message {
     /// Its words.
     pub fn words(&self) -> &[u32]
         ensures value { result.now ≡ self.now }
-        ensures short { length self.now ≤ 16 }
+        ensures short { length self.now ≤ message_limit }
     {
         &self.words
     }

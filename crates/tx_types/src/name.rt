@@ -4,6 +4,7 @@
 //! bytes; the zero that ends a name in a module's memory isn't known here.
 ghost use Rattle.std.specs.Prelude.{◌≡◌, ◌≤◌, ◌<◌, ◌+◌, ◌∷◌, ◌++◌, [], length};
 ghost use Rattle.std.specs.Str.{bytes_eq};
+ghost use Rattle.tx_types.specs.Limits.{name_limit};
 
 use arrayvec::ArrayVec;
 use std::marker::Model;
@@ -34,7 +35,7 @@ impl Name {
 
     /// The name of these bytes.
     pub fn from_bytes(bytes: &[u8]) -> Name
-        requires { length bytes.now ≤ 31 }
+        requires { length bytes.now ≤ name_limit }
         ensures { result ≡ bytes.now }
     {
         let mut name = Name::empty();
@@ -46,7 +47,7 @@ impl Name {
 
     /// Adds a byte at the end.
     pub fn push(&mut self, b: u8)
-        requires { length self.old < 31 }
+        requires { length self.old < name_limit }
         ensures { self.new ≡ self.old ++ b ∷ [] }
     {
         self.bytes.push(b);
@@ -55,7 +56,7 @@ impl Name {
     /// Its bytes.
     pub fn bytes(&self) -> &[u8]
         ensures value { result.now ≡ self.now }
-        ensures short { length self.now ≤ 31 }
+        ensures short { length self.now ≤ name_limit }
     {
         &self.bytes
     }

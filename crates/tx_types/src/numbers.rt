@@ -10,22 +10,24 @@ pub struct ModNo(u8);
 
 impl Model for ModNo {
     ghost use Rattle.std.specs.Prelude.{ℕ, ◌<◌};
+    ghost use Rattle.tx_types.specs.Limits.{module_limit};
 
     ghost Value = { ℕ };
 
     ghost view = { λ m. m.0 };
 
-    ghost invariant = { λ m. m.0 < 16 };
+    ghost invariant = { λ m. m.0 < module_limit };
 
     ghost inverse = { λ n. record { 0 = n } };
 }
 
 impl ModNo {
     ghost use Rattle.std.specs.Prelude.{◌≡◌, ◌<◌};
+    ghost use Rattle.tx_types.specs.Limits.{module_limit};
 
     /// The module of a number.
     pub fn new(number: u8) -> ModNo
-        requires { number < 16 }
+        requires { number < module_limit }
         ensures { result ≡ number }
     {
         ModNo(number)
@@ -35,7 +37,7 @@ impl ModNo {
     #[inline]
     pub fn number(self) -> u8
         ensures same { result ≡ self }
-        ensures below_16 { result < 16 }
+        ensures below_16 { result < module_limit }
     {
         self.0
     }
@@ -50,23 +52,25 @@ pub type ThreadNo = ObjNo;
 
 impl Model for ObjNo {
     ghost use Rattle.std.specs.Prelude.{ℕ, ◌<◌};
+    ghost use Rattle.tx_types.specs.Limits.{slot_limit};
 
     ghost Value = { ℕ };
 
     ghost view = { λ o. o.0 };
 
-    ghost invariant = { λ o. o.0 < 256 };
+    ghost invariant = { λ o. o.0 < slot_limit };
 
     ghost inverse = { λ n. record { 0 = n } };
 }
 
 impl ObjNo {
     ghost use Rattle.std.specs.Prelude.{◌≡◌, ◌<◌};
+    ghost use Rattle.tx_types.specs.Limits.{slot_limit};
 
     /// The object of a number.
     #[inline]
     pub fn new(number: u16) -> ObjNo
-        requires { number < 256 }
+        requires { number < slot_limit }
         ensures { result ≡ number }
     {
         ObjNo(number)
@@ -76,7 +80,7 @@ impl ObjNo {
     #[inline]
     pub fn number(self) -> u16
         ensures same { result ≡ self }
-        ensures below_256 { result < 256 }
+        ensures below_256 { result < slot_limit }
     {
         self.0
     }
@@ -85,7 +89,7 @@ impl ObjNo {
     #[inline]
     pub fn place(self) -> usize
         ensures same { result ≡ self }
-        ensures below_256 { result < 256 }
+        ensures below_256 { result < slot_limit }
     {
         self.0 as usize
     }
@@ -98,23 +102,25 @@ pub struct Prio(u16);
 
 impl Model for Prio {
     ghost use Rattle.std.specs.Prelude.{ℕ, ◌<◌};
+    ghost use Rattle.tx_types.specs.Limits.{priority_limit};
 
     ghost Value = { ℕ };
 
     ghost view = { λ p. p.0 };
 
-    ghost invariant = { λ p. p.0 < 1024 };
+    ghost invariant = { λ p. p.0 < priority_limit };
 
     ghost inverse = { λ n. record { 0 = n } };
 }
 
 impl Prio {
     ghost use Rattle.std.specs.Prelude.{◌≡◌, ◌<◌};
+    ghost use Rattle.tx_types.specs.Limits.{priority_limit};
 
     /// The priority of a number.
     #[inline]
     pub fn new(number: u16) -> Prio
-        requires { number < 1024 }
+        requires { number < priority_limit }
         ensures { result ≡ number }
     {
         Prio(number)
@@ -124,7 +130,7 @@ impl Prio {
     #[inline]
     pub fn number(self) -> u16
         ensures same { result ≡ self }
-        ensures below_1024 { result < 1024 }
+        ensures below_1024 { result < priority_limit }
     {
         self.0
     }
@@ -137,23 +143,25 @@ pub struct Thresh(u16);
 
 impl Model for Thresh {
     ghost use Rattle.std.specs.Prelude.{ℕ, ◌<◌};
+    ghost use Rattle.tx_types.specs.Limits.{priority_limit};
 
     ghost Value = { ℕ };
 
     ghost view = { λ p. p.0 };
 
-    ghost invariant = { λ p. p.0 < 1024 };
+    ghost invariant = { λ p. p.0 < priority_limit };
 
     ghost inverse = { λ n. record { 0 = n } };
 }
 
 impl Thresh {
     ghost use Rattle.std.specs.Prelude.{◌≡◌, ◌<◌};
+    ghost use Rattle.tx_types.specs.Limits.{priority_limit};
 
     /// The threshold of a number.
     #[inline]
     pub fn new(number: u16) -> Thresh
-        requires { number < 1024 }
+        requires { number < priority_limit }
         ensures { result ≡ number }
     {
         Thresh(number)
@@ -163,7 +171,7 @@ impl Thresh {
     #[inline]
     pub fn number(self) -> u16
         ensures same { result ≡ self }
-        ensures below_1024 { result < 1024 }
+        ensures below_1024 { result < priority_limit }
     {
         self.0
     }

@@ -65,3 +65,15 @@ pub struct Totals {
     pub deleted: u64,
     pub gone: u64,
 }
+
+impl Totals {
+    /// No wait began.
+    pub const NONE: Totals = Totals {
+        begun: 0,
+        satisfied: 0,
+        timed_out: 0,
+        aborted: 0,
+        deleted: 0,
+        gone: 0,
+    };
+}

@@ -1,4 +1,4 @@
-use Rattle.std.proofs.Common.{◌≡◌, ◌∷◌, ◌++◌, [], ◌∙◌, sym, ap, Some}
+use Rattle.std.proofs.Common.{◌∷◌, ◌++◌, [], ◌∙◌, sym, ap, Some}
 use Rattle.event_log.specs.Log.{closed}
 use Rattle.event_log.proofs.Closed.{closed-steps, closed-by-irq}
 use Rattle.event_log.proofs.history.open_entry.Goals as goal

@@ -1,7 +1,7 @@
 use Rattle.std.proofs.Common.{◌≡◌, ◌<◌, [], length, drop}
 use Rattle.std.specs.List.{flat_map, slice_get}
 use Rattle.board_report.specs.Report.{module_lines}
-use Rattle.board_report.proofs.rows.put_module_line.Given as goal
+use Rattle.board_report.proofs.row_places.put_module_line.Given as goal
 
 -- the line is still empty, and the one sought is among those of the modules that are left
 abbrev pub invariant-loop-row : goal.invariant-loop-row

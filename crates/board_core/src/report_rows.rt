@@ -4,6 +4,7 @@
 //! shorter one. The rows of the shows have a file of their own.
 ghost use Rattle.std.specs.Prelude.{◌≡◌, ◌+◌, ◌<◌, ◌≤◌, ◌++◌, ◌∷◌, [], All, length, IfOk, OnOk, IfSome};
 ghost use Rattle.std.specs.Option.{option_map, option_to_list};
+ghost use Rattle.tx_types.specs.Limits.{device_limit, slot_limit};
 ghost use Rattle.board_values.specs.declared.report.ThreadRow.{ThreadRow};
 ghost use Rattle.kernel_state.specs.Kernel.{is_thread};
 ghost use Rattle.kernel_state.specs.Rows.{object_row};
@@ -42,7 +43,7 @@ fn put_some<T: Drop>(rows: &mut Vec<T>, row: Option<T>) -> Result<(), AllocError
 /// The numbers of threads.
 pub(crate) fn numbers(alloc: Global, threads: &[ThreadNo]) -> Result<Nums, NoMemory>
     ensures same { IfOk result (λ ns. ns ≡ threads.now) }
-    ensures small { IfOk result (All (λ n. n < 256)) }
+    ensures small { IfOk result (All (λ n. n < slot_limit)) }
 {
     let mut ns = Vec::new(alloc);
     for t in threads {
@@ -146,7 +147,7 @@ fn thread_row(alloc: Global, kernel: &Kernel, t: ThreadNo) -> Result<Option<Thre
 /// A row for each thread.
 #[tactic(auto, using(crate::proofs::Lists::rows_found_none, crate::proofs::Lists::rows_found_more, crate::proofs::Lists::all_put))]
 pub(crate) fn thread_rows(alloc: Global, kernel: &Kernel) -> Result<ThreadRows, NoMemory>
-    requires { length kernel.now.objects ≡ 256 }
+    requires { length kernel.now.objects ≡ slot_limit }
     ensures rows { IfOk result (λ rows. rows
         ≡ rows_found (length kernel.now.objects) (thread_row kernel.now)) }
     ensures regs { IfOk result (All (λ (t : ThreadRow). length t.regs ≡ 31)) }
@@ -161,7 +162,7 @@ pub(crate) fn thread_rows(alloc: Global, kernel: &Kernel) -> Result<ThreadRows, 
 /// A row for each object that isn't a thread.
 #[tactic(auto, using(crate::proofs::Lists::rows_found_none, crate::proofs::Lists::rows_found_more))]
 pub(crate) fn object_rows(alloc: Global, kernel: &Kernel) -> Result<ObjectRows, NoMemory>
-    requires { length kernel.now.objects ≡ 256 }
+    requires { length kernel.now.objects ≡ slot_limit }
     ensures { IfOk result (λ rows. rows
         ≡ rows_found (length kernel.now.objects) (object_row kernel.now)) }
 {
@@ -195,7 +196,7 @@ pub(crate) fn device_rows(
     board: &Board,
     devices: &Devices,
 ) -> Result<DeviceRows, NoMemory>
-    requires few { length devices.now ≤ 16 }
+    requires few { length devices.now ≤ device_limit }
     requires board { length devices.now ≡ length board.now.devices }
     ensures { IfOk result (λ rows. rows
         ≡ rows_below (length devices.now) (device_row board.now devices.now)) }

@@ -4,18 +4,21 @@
 //! The rows are read and never changed.
 ghost use Rattle.std.specs.Prelude.{◌≡◌, ◌+◌, ◌*◌, ◌<◌, ◌≤◌, [], Some, All, length, map};
 ghost use Rattle.std.specs.List.{flat_map, slice_get};
+ghost use Rattle.tx_types.specs.Limits.{cell_limit, slot_limit};
 ghost use Rattle.board_report.specs.Printable.{IsNumbers};
 ghost use Rattle.board_report.specs.Report.{module_lines, thread_lines, object_line, device_line, show_line};
 
-use crate::kinds::{put_device, put_fault, put_module, put_object, put_regs, put_show, put_thread};
+use crate::line_text::{
+    put_device, put_fault, put_module, put_object, put_regs, put_show, put_thread,
+};
 use board_values::{DeviceRow, ModuleRow, ObjectRow, ShowRow, ThreadRow};
 use tx_types::Line;
 
 /// How many lines the modules have.
 pub(crate) fn module_count(rows: &[ModuleRow]) -> u32
-    requires { length rows.now ≤ 256 }
+    requires { length rows.now ≤ slot_limit }
     ensures count { result ≡ length (flat_map module_lines rows.now) }
-    ensures small { result ≤ 512 }
+    ensures small { result ≤ 2 * slot_limit }
 {
     let mut count = 0;
     for row in rows {
@@ -27,16 +30,16 @@ pub(crate) fn module_count(rows: &[ModuleRow]) -> u32
 /// How many lines the threads have.
 #[tactic(auto, using(crate::proofs::Places::thread_length))]
 pub(crate) fn thread_count(rows: &[ThreadRow]) -> u32
-    requires { length rows.now ≤ 256 }
+    requires { length rows.now ≤ slot_limit }
     ensures count { result ≡ length (flat_map thread_lines rows.now) }
-    ensures small { result ≤ 512 }
+    ensures small { result ≤ 2 * slot_limit }
 {
     2 * row_count(rows)
 }
 
 /// How many rows there are.
 pub(crate) fn row_count<T>(rows: &[T]) -> u32
-    requires { length rows.now ≤ 256 }
+    requires { length rows.now ≤ slot_limit }
     ensures { result ≡ length rows.now }
 {
     rows.len() as u32
@@ -107,7 +110,7 @@ pub(crate) fn put_device_line(line: &mut Line, rows: &[DeviceRow], i: u32)
 pub(crate) fn put_show_line(line: &mut Line, rows: &[ShowRow], i: u32)
     requires empty { line.old.bytes ≡ [] }
     requires there { i < length rows.now }
-    requires few { All (λ s. length s.cells ≤ 64) rows.now }
+    requires few { All (λ s. length s.cells ≤ cell_limit) rows.now }
     ensures { slice_get (map show_line rows.now) i ≡ Some line.new.bytes }
 {
     put_show(line, &rows[i as usize]);

@@ -3,17 +3,15 @@
 //! Each begins from an empty line, and asks only for what keeps its line within its room.
 ghost use Rattle.std.specs.Prelude.{◌≡◌, ◌+◌, ◌≤◌, ◌++◌, [], length};
 ghost use Rattle.arrayvec.specs.ArrayString.{array_string_len};
+ghost use Rattle.tx_types.specs.Limits.{cell_limit, line_room};
 ghost use Rattle.board_report.specs.Printable.{IsNumbers};
 ghost use Rattle.board_report.specs.Report.{first_line, events_line, running_line, held_line, ready_line, waits_line, module_line, fault_line, thread_front, thread_numbers, thread_line, regs_line, object_line, device_line, show_line, last_line};
 
 use crate::parts::{
     end_line, put_cells, put_name, put_numbers, put_pair, put_running, put_text, put_words,
 };
-use board_values::{
-    DeviceRow, FaultRow, ModuleRow, ObjectRow, Report, ShowRow, ThreadRow, Totals, put_hex_byte,
-    put_long,
-};
-use tx_types::{Line, put_decimal, put_hex};
+use board_values::{DeviceRow, FaultRow, ModuleRow, ObjectRow, Report, ShowRow, ThreadRow};
+use tx_types::{Line, Totals, put_decimal, put_hex, put_hex_byte, put_long};
 
 /// The first line.
 #[tactic(auto, unfolding(crate::specs::Report::first_line))]
@@ -177,7 +175,7 @@ pub(crate) fn put_device(line: &mut Line, d: &DeviceRow)
 #[tactic(auto, unfolding(crate::specs::Report::show_line))]
 pub(crate) fn put_show(line: &mut Line, s: &ShowRow)
     requires empty { line.old.bytes ≡ [] }
-    requires few { length s.now.cells ≤ 64 }
+    requires few { length s.now.cells ≤ cell_limit }
     ensures { line.new.bytes ≡ show_line s.now }
 {
     put_text(line, "show ");
@@ -189,7 +187,7 @@ pub(crate) fn put_show(line: &mut Line, s: &ShowRow)
 /// Appends which thread it is, and its state.
 #[tactic(auto, unfolding(crate::specs::Report::thread_front))]
 fn put_thread_front(line: &mut Line, t: &ThreadRow)
-    requires { array_string_len line.old + 100 ≤ 1280 }
+    requires { array_string_len line.old + 100 ≤ line_room }
     ensures bytes { line.new.bytes ≡ line.old.bytes ++ thread_front t.now }
     ensures short { array_string_len line.new ≤ array_string_len line.old + 100 }
 {
@@ -206,7 +204,7 @@ fn put_thread_front(line: &mut Line, t: &ThreadRow)
 /// Appends a thread's numbers, each as its module set it and as it is in effect.
 #[tactic(auto, unfolding(crate::specs::Report::thread_numbers))]
 fn put_thread_numbers(line: &mut Line, t: &ThreadRow)
-    requires { array_string_len line.old + 100 ≤ 1280 }
+    requires { array_string_len line.old + 100 ≤ line_room }
     ensures bytes { line.new.bytes ≡ line.old.bytes ++ thread_numbers t.now }
     ensures short { array_string_len line.new ≤ array_string_len line.old + 100 }
 {
