@@ -1,6 +1,7 @@
--- The kernel's state: object slots, threads, the scheduler and where each module's threads begin.
-use Rattle.std.specs.Prelude.{ℕ, ◌==◌, ◌&&◌, Bool, min, List, slice_set, replicate, Option, None, Some, if◌then◌else◌}
+-- The kernel's state: object slots, threads, the scheduler, where each module's threads begin, waits, timeouts and the clock.
+use Rattle.std.specs.Prelude.{ℕ, ◌==◌, ◌&&◌, Bool, min, List, [], slice_set, replicate, Option, None, Some, if◌then◌else◌}
 use Rattle.std.specs.List.{slice_index_or}
+use Rattle.tx_types.specs.Limits.{module_limit, slot_limit}
 use Rattle.tx_types.specs.declared.kind.Kind.{Kind}
 use Rattle.tx_types.specs.declared.kind.Kind.TheVariants.{Thread as ThreadKind}
 use Rattle.object_grants.specs.Slot.{free_slot, is_in, is_kind}
@@ -9,6 +10,8 @@ use Rattle.object_grants.specs.declared.slot.Slot.{Slot}
 use Rattle.object_grants.specs.declared.slot.SlotState.TheVariants.{Live}
 use Rattle.ready_maps.specs.Moves.{priority_set}
 use Rattle.ready_maps.specs.Sched.{new_sched}
+use Rattle.soft_timers.specs.Timers.{no_timers}
+use Rattle.suspend_lists.specs.Waits.{new_table}
 use Rattle.kernel_state.specs.Spot.{blank_spot}
 use Rattle.kernel_state.specs.Thread.{blank_thread, new_thread}
 use Rattle.kernel_state.specs.declared.kernel.Kernel.{Kernel}
@@ -75,11 +78,15 @@ without_callback k t =
 abbrev pub removed_thread : Kernel → ℕ → Kernel
 removed_thread k t = removed (without_callback k t) t
 
--- no object, no thread, and no module has a place yet
+-- no object, no thread, and no module has a place yet; nothing waits, nothing is armed, and no tick came
 abbrev pub blank_kernel : Kernel
 blank_kernel = record {
   ready = new_sched 32;
-  objects = replicate 256 (free_slot 0);
-  threads = replicate 256 blank_thread;
-  spots = replicate 16 blank_spot;
+  objects = replicate slot_limit (free_slot 0);
+  threads = replicate slot_limit blank_thread;
+  spots = replicate module_limit blank_spot;
+  waits = new_table;
+  wheel = no_timers;
+  clock = 0;
+  due = [];
 }

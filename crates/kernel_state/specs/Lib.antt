@@ -5,7 +5,9 @@ pub mod Laws
 pub mod Lending
 pub mod Outcome
 pub mod Range
+pub mod Readying
 pub mod Registers
+pub mod Room
 pub mod Row
 pub mod Rows
 pub mod Scheduling
@@ -16,3 +18,6 @@ pub mod Tests
 pub mod Thread
 pub mod ThreadChanges
 pub mod ThreadLaws
+pub mod Ticks
+pub mod WaitLaws
+pub mod Waiting

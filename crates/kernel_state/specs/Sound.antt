@@ -1,5 +1,7 @@
 -- What holds of the kernel's state: it is formed, and the scheduler has each thread's effective pair.
-use Rattle.std.specs.Prelude.{◌≡◌, ◌≢◌, ◌⊎◌, ℕ, ◌%◌, ◌<◌, ◌≤◌, Bool, true, false, List, [], length, All, IfSome}
+use Rattle.std.specs.Prelude.{◌≡◌, ◌≢◌, ◌⊎◌, ◌↔◌, ℕ, ◌%◌, ◌<◌, ◌≤◌, Bool, true, false, List, [], length, All, Option, None, Some, IfSome, IsSome}
+use Rattle.tx_types.specs.Limits.{module_limit, slot_limit}
+use Rattle.tx_types.specs.declared.state.State.{State}
 use Rattle.tx_types.specs.declared.state.State.TheVariants.{Ready}
 use Rattle.object_grants.specs.Table.{slot}
 use Rattle.object_grants.specs.declared.slot.Slot.{Slot}
@@ -7,8 +9,15 @@ use Rattle.object_grants.specs.declared.slot.SlotState.{SlotState}
 use Rattle.object_grants.specs.declared.slot.SlotState.TheVariants.{Free, Empty, Live}
 use Rattle.ready_maps.specs.Sched.{has, pr, th, is_ready}
 use Rattle.ready_maps.specs.Kept.{IsKept}
+use Rattle.soft_timers.specs.Timers.{IsWheel, armed}
+use Rattle.soft_timers.specs.declared.due.Armed.{Armed}
+use Rattle.suspend_lists.specs.Waits.{IsTable, wait_of}
+use Rattle.suspend_lists.specs.declared.wait.Asks.TheVariants.{Sleep}
+use Rattle.suspend_lists.specs.declared.wait.On.TheVariants.{Sleep as Nowhere}
+use Rattle.suspend_lists.specs.declared.wait.Wait.{Wait}
 use Rattle.kernel_state.specs.Thread.{is_state, is_waiting}
 use Rattle.kernel_state.specs.Kernel.{thread, is_thread, module_of, spot, effective_priority, effective_threshold}
+use Rattle.kernel_state.specs.Waiting.{state_of_ask}
 use Rattle.kernel_state.specs.declared.kernel.Kernel.{Kernel}
 use Rattle.kernel_state.specs.declared.spot.Spot.{Spot}
 
@@ -22,7 +31,21 @@ IsClean s Live = All (λ b. b ≢ 0) s.name
 abbrev pub IsSlice : ℕ → ℕ → Type 0
 IsSlice slice left = ((slice ≡ 0) × (left ≡ 0)) ⊎ ((1 ≤ left) × (left ≤ slice))
 
--- a thread's own facts: it agrees with its slot, and its numbers are in range
+-- a wait is right: a sleep has no place, and any other wait has one
+abbrev pub IsWait : Wait → Type 0
+IsWait w = (w.asks ≡ Sleep) ↔ (w.on ≡ Nowhere)
+
+-- who is in a wait has the state of what it asked for, and who isn't is in no such state
+abbrev pub IsWaitOf : State → Option Wait → Type 0
+IsWaitOf state None = is_waiting state ≡ false
+IsWaitOf state (Some w) = (state ≡ state_of_ask w.asks) × IsWait w
+
+-- a sleeper's timeout is armed, and so is that of no number that isn't in a wait; timer objects are never armed yet
+abbrev pub IsTimeoutOf : Option Wait → Option Armed → Type 0
+IsTimeoutOf None timeout = timeout ≡ None
+IsTimeoutOf (Some w) timeout = w.asks ≡ Sleep → IsSome timeout
+
+-- a thread's own facts: it agrees with its slot and its wait, and its numbers are in range
 pub record IsThread (k : Kernel) (t : ℕ) : Type 0 where
   pub owner : module_of k t ≡ (slot k.objects t).owner
   pub ready : is_ready k.ready t ≡ is_state (thread k t).state Ready
@@ -30,26 +53,30 @@ pub record IsThread (k : Kernel) (t : ℕ) : Type 0 where
   pub threshold : (thread k t).threshold ≤ (thread k t).priority
   pub slice : IsSlice (thread k t).slice (thread k t).left
   pub held : (thread k t).held ≡ true → is_waiting (thread k t).state ≡ true
+  pub wait : IsWaitOf (thread k t).state (wait_of k.waits t)
 
--- what is no thread isn't ready
+-- what is no thread isn't ready, and waits for nothing
 abbrev pub IsEntry : Kernel → ℕ → Bool → Type 0
 IsEntry k t true = IsThread k t
-IsEntry k t false = is_ready k.ready t ≡ false
+IsEntry k t false = (is_ready k.ready t ≡ false) × (wait_of k.waits t ≡ None)
 
 -- a module's threads begin at a multiple of 4, and its callback thread is a thread of its own
 pub record IsSpot (k : Kernel) (m : ℕ) (s : Spot) : Type 0 where
   pub shell : s.shell % 4 ≡ 0
-  pub callback : IfSome s.callback (λ t. (t < 256) × (is_thread k t ≡ true) × (module_of k t ≡ m))
+  pub callback : IfSome s.callback (λ t. (t < slot_limit) × (is_thread k t ≡ true) × (module_of k t ≡ m))
 
--- the tables, their slots, the spots, and the own facts of each thread
+-- the tables, their slots, the spots, the own facts of each thread, and the timeouts
 pub record IsFormed (k : Kernel) : Type 0 where
   pub scheduler : IsKept k.ready
-  pub slots : length k.objects ≡ 256
-  pub threads : length k.threads ≡ 256
-  pub spots : length k.spots ≡ 16
-  pub clean : (o : ℕ) → o < 256 → IsClean (slot k.objects o) (slot k.objects o).state
-  pub entries : (t : ℕ) → t < 256 → IsEntry k t (is_thread k t)
-  pub places : (m : ℕ) → m < 16 → IsSpot k m (spot k m)
+  pub slots : length k.objects ≡ slot_limit
+  pub threads : length k.threads ≡ slot_limit
+  pub spots : length k.spots ≡ module_limit
+  pub waits : IsTable k.waits
+  pub wheel : IsWheel k.wheel
+  pub clean : (o : ℕ) → o < slot_limit → IsClean (slot k.objects o) (slot k.objects o).state
+  pub entries : (t : ℕ) → t < slot_limit → IsEntry k t (is_thread k t)
+  pub timeouts : (i : ℕ) → IsTimeoutOf (wait_of k.waits i) (armed k.wheel i)
+  pub places : (m : ℕ) → m < module_limit → IsSpot k m (spot k m)
 
 -- the pair that a thread has in the scheduler is its effective pair
 pub record IsSettled (k : Kernel) (t : ℕ) : Type 0 where

@@ -20,24 +20,31 @@ use crate::threads::Threads;
 use object_grants::{Objects, SlotState};
 use ready_maps::Ready;
 use rv_core::Hart;
+use soft_timers::{Due, Wheel};
 use std::alloc::Global;
+use suspend_lists::Waits;
 use tx_types::{Kind, ModNo, Name, NoMemory, ObjNo, Prio, State, ThreadNo, Thresh};
 
 /// How many priorities a new kernel has.
 const PRIORITIES: u16 = 32;
 
-/// The object slots, the threads, the scheduler and the spots of modules. It has all memory that a
-/// service ever needs.
+/// The object slots, the threads, the scheduler, the spots of modules, the waits, the timeouts and
+/// the clock that programs see. It has all memory that a service ever needs; `due` is room for what
+/// is due at a tick, and empty but during one.
 #[derive(Drop)]
 pub struct Kernel {
     pub ready: Ready,
     pub objects: Objects,
     pub threads: Threads,
     pub spots: Spots,
+    pub waits: Waits,
+    pub wheel: Wheel,
+    pub clock: u32,
+    pub due: Due,
 }
 
 impl Kernel {
-    /// No object, no thread, and no module's spot.
+    /// No object, no thread, and no module's spot; nothing waits, and no tick came.
     pub fn new(alloc: Global) -> Result<Kernel, NoMemory>
         ensures blank { IfOk result (λ k. k ≡ blank_kernel) }
         ensures sound { IfOk result IsSound }
@@ -46,11 +53,18 @@ impl Kernel {
         let objects = Objects::new(alloc)?;
         let threads = Threads::new(alloc)?;
         let spots = Spots::new(alloc)?;
+        let waits = Waits::new(alloc)?;
+        let wheel = Wheel::new(alloc)?;
+        let due = Due::new(alloc)?;
         Ok(Kernel {
             ready,
             objects,
             threads,
             spots,
+            waits,
+            wheel,
+            clock: 0,
+            due,
         })
     }
 

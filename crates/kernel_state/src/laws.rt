@@ -4,13 +4,19 @@
 ghost use Rattle.std.specs.Prelude.{ℕ, List};
 ghost use Rattle.tx_types.specs.declared.kind.Kind.{Kind};
 ghost use Rattle.kernel_state.specs.Scheduling.{ReadyChangesOne, UnreadyChangesOne, YieldChangesNone, ThresholdChangesOne, PriorityChangesOne};
-ghost use Rattle.kernel_state.specs.Laws.{EffectiveStays, EffectiveFits, SoundFrom, OneThreadChanges, OneStateChanges, OneHartChanges, OneSlotChanges, OneSpotChanges, OneThreadIsMade, OneThreadIsRemoved, RunningIsReady, ReadyIsThread, ThreadIsRight};
+ghost use Rattle.kernel_state.specs.Laws.{EffectiveStays, EffectiveFits, SoundFrom, OneThreadChanges, OneStateChanges, OneWaitChanges, OneHartChanges, OneSlotChanges, OneSpotChanges, OneThreadIsMade, OneThreadIsRemoved, RunningIsReady, ReadyIsThread, ThreadIsRight};
 ghost use Rattle.kernel_state.specs.Row.{AnsweredIsKept, ChangedIsKept, DoneIsKept, WrittenIsKept, UnlessIsKept, FoundIsKept, GivenIsKept, EitherIsKept, RunningCalls};
+ghost use Rattle.kernel_state.specs.WaitLaws.{BeginKeepsSound, WaitEndKeepsSound, TickKeepsServing, BeginRaisesOne, WaitEndRaisesNone, EndRaisesNone, TickRaisesOne, EndKeepsMemory, EndChangesOne};
 ghost use Rattle.kernel_state.specs.ThreadLaws.{ReadyKeepsSound, UnreadyKeepsSound, HeldKeepsSound, FreshKeepsSound, StartKeepsServing, SuspendKeepsServing, EndKeepsServing, ResetKeepsServing};
 
 use flat_ram::a_write_changes_its_range_alone;
 use ready_maps::laws::{a_move_changes_its_thread_alone, moves_keep_the_facts};
 use region_guard::{a_write_changes_its_bytes_alone, what_may_be_used_is_in_ram};
+use soft_timers::{
+    a_call_changes_its_own_alone, an_arming_is_over_once, calls_keep_the_wheel,
+    each_has_a_tick_left,
+};
+use suspend_lists::calls_keep_the_table;
 
 /// What each move of the scheduler leaves of its own thread and of the others.
 pub fn a_move_leaves_others_alone()
@@ -32,13 +38,14 @@ pub fn an_effective_pair_fits()
 {}
 
 /// A kernel is sound where another was, if each number looks the same or is right. So it stays sound
-/// where one thread changes and agrees with the scheduler, where a thread's registers change, where a
-/// slot changes that isn't made or unmade a thread, where a module's spot changes, where a thread is
-/// made, and where one is removed.
+/// where one thread changes and agrees with the scheduler, where its wait begins or ends with that,
+/// where a thread's registers change, where a slot changes that isn't made or unmade a thread, where a
+/// module's spot changes, where a thread is made, and where one is removed.
 pub fn a_kernel_stays_sound()
     ensures from { SoundFrom }
     ensures one_thread_changes { OneThreadChanges }
     ensures one_state_changes { OneStateChanges }
+    ensures one_wait_changes { OneWaitChanges }
     ensures one_hart_changes { OneHartChanges }
     ensures one_slot_changes { OneSlotChanges }
     ensures one_spot_changes { OneSpotChanges }
@@ -59,6 +66,44 @@ pub fn a_change_of_state_keeps_sound()
     a_kernel_stays_sound();
     a_move_leaves_others_alone();
 }
+
+/// The beginning and the end of a wait.
+pub fn a_wait_keeps_sound()
+    ensures begins { BeginKeepsSound }
+    ensures ends { WaitEndKeepsSound }
+{
+    a_kernel_stays_sound();
+    a_move_leaves_others_alone();
+    a_call_changes_its_own_alone();
+    calls_keep_the_table();
+    calls_keep_the_wheel();
+}
+
+/// A tick.
+pub fn a_tick_keeps_serving()
+    ensures { TickKeepsServing }
+{
+    a_wait_keeps_sound();
+    a_kernel_stays_sound();
+    a_move_leaves_others_alone();
+    calls_keep_the_wheel();
+    an_arming_is_over_once();
+    each_has_a_tick_left();
+}
+
+/// By how much waits, armings and ticks grow in number.
+pub fn a_change_raises_counts_by_one()
+    ensures begins { BeginRaisesOne }
+    ensures wait_ends { WaitEndRaisesNone }
+    ensures thread_ends { EndRaisesNone }
+    ensures tick { TickRaisesOne }
+{}
+
+/// What the end of a thread leaves alone, whether it waits or not.
+pub fn an_end_changes_its_thread_alone()
+    ensures memory { EndKeepsMemory }
+    ensures kernel { EndChangesOne }
+{}
 
 /// Starting, suspending, ending and resetting a thread.
 pub fn a_change_of_state_keeps_serving()

@@ -1,14 +1,15 @@
 //! The kernel's state, and what services answer.
 //!
-//! It has the object slots, the threads, the scheduler and where each module's threads begin, with
-//! what has to hold of them together. What a service does is left to other crates, and the memory
-//! of modules is no part of it.
+//! It has the object slots, the threads, the scheduler, where each module's threads begin, waits,
+//! timeouts and the clock, with what has to hold of them together. What a service does is left to
+//! other crates, and the memory of modules is no part of it.
 #![tactic(auto)]
 
 mod answer;
 mod kernel;
 pub mod laws;
 mod naming;
+mod readying;
 mod registers;
 mod rows;
 mod spot;
@@ -16,6 +17,8 @@ mod state;
 mod thread;
 mod thread_changes;
 mod threads;
+mod ticks;
+mod waiting;
 
 pub use answer::{Answer, Args};
 pub use kernel::Kernel;

@@ -1,42 +1,22 @@
 //! How the state of a thread changes: it is started, suspended, ended, or begins anew.
 //!
-//! The end of a wait takes the same steps: a thread is readied, or suspended where that was held.
+//! A thread that ends leaves its wait without an answer. What else ends a wait stands elsewhere.
 ghost use Rattle.std.specs.Prelude.{◌≡◌, ◌⊎◌, true, false};
 ghost use Rattle.tx_types.specs.declared.state.State.TheVariants.{Suspended};
 ghost use Rattle.ready_maps.specs.Sched.{is_ready};
 ghost use Rattle.kernel_state.specs.Kernel.{thread, is_thread};
 ghost use Rattle.kernel_state.specs.Serves.{Serves};
+ghost use Rattle.kernel_state.specs.Sound.{IsSound};
 ghost use Rattle.kernel_state.specs.Thread.{is_over, is_state};
-ghost use Rattle.kernel_state.specs.ThreadChanges.{made_ready, made_unready, with_fresh, with_held, started, suspended, ended, ended_now, reset};
+ghost use Rattle.kernel_state.specs.ThreadChanges.{with_fresh, with_held, started, suspended, ended, gone, over_by, reset};
 
 use crate::kernel::Kernel;
 use crate::laws::a_change_of_state_keeps_serving;
 use crate::state::{is_over, is_waiting};
 use region_guard::Guard;
-use tx_types::{State, ThreadNo};
+use tx_types::{End, Message, State, ThreadNo};
 
 impl Kernel {
-    /// A thread that isn't ready becomes so: its time slice is whole again.
-    pub fn make_ready(&mut self, t: ThreadNo)
-        requires absent { is_ready self.old.ready t ≡ false }
-        ensures after { self.new ≡ made_ready self.old t }
-        ensures levels { self.new.ready.levels ≡ self.old.ready.levels }
-    {
-        let thread = self.thread_mut(t);
-        thread.state = State::Ready;
-        thread.left = thread.slice;
-        self.ready.ready(t);
-    }
-
-    /// A ready thread is ready no longer, and has another state.
-    pub fn make_unready(&mut self, t: ThreadNo, state: State)
-        requires ready { is_ready self.old.ready t ≡ true }
-        ensures { self.new ≡ made_unready self.old t state }
-    {
-        self.thread_mut(t).state = state;
-        self.ready.unready(t);
-    }
-
     /// A suspension is held until the end of a wait, or isn't any more.
     pub fn set_held(&mut self, t: ThreadNo, held: bool)
         ensures { self.new ≡ with_held self.old t held }
@@ -97,15 +77,29 @@ pub fn end_thread(k: &mut Kernel, g: &mut Guard, t: ThreadNo, state: State)
 {
     a_change_of_state_keeps_serving();
     let _ = &g;
-    if !is_over(k.state(t)) {
-        end_now(k, t, state);
+    end_its_wait(k, g, t);
+    end_now(k, t, state);
+}
+
+/// Ends the wait of a thread that is to end, where it is in one.
+fn end_its_wait(k: &mut Kernel, g: &mut Guard, t: ThreadNo)
+    requires sound { IsSound k.old }
+    requires live { is_thread k.old t ≡ true }
+    ensures kernel { k.new ≡ (gone k.old g.old t).kernel }
+    ensures memory { g.new ≡ (gone k.old g.old t).memory }
+{
+    if is_waiting(k.state(t)) {
+        k.end_wait(g, t, End::Gone, &Message::empty());
     }
 }
 
-/// Ends a thread that isn't over.
+/// Ends a thread, unless it is over.
 fn end_now(k: &mut Kernel, t: ThreadNo, state: State)
-    ensures { k.new ≡ ended_now k.old t state }
+    ensures { k.new ≡ over_by k.old t state }
 {
+    if is_over(k.state(t)) {
+        return;
+    }
     let thread = k.thread_mut(t);
     thread.state = state;
     thread.held = false;

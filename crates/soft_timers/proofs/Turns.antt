@@ -1,12 +1,12 @@
 -- What ticks leave without a tick left, and that it is gone after the turns of what was due.
-use Rattle.std.proofs.Common.{◌≡◌, ◌≢◌, ℕ, suc, ◌+◌, ◌<◌, ◌==◌, Bool, true, false, not, ◌&&◌, ◌||◌, nat_lt, List, [], ◌∷◌, find, filter, cond, All, AllPairs, Option, None, Some, ⊎_elim, refl, ap, sym, subst, ◌∙◌, arith}
+use Rattle.std.proofs.Common.{◌≡◌, ◌≢◌, ℕ, suc, ◌+◌, ◌<◌, ◌==◌, Bool, true, false, not, ◌&&◌, ◌||◌, nat_lt, List, [], ◌∷◌, ◌++◌, find, filter, cond, All, AllPairs, Option, None, Some, ⊎_elim, refl, ap, sym, subst, ◌∙◌, arith}
 use Rattle.std.proofs.lemmas.Bool.{eqb-true, eq-eqb, ne_eqb, lt-ltb, ltb-true, cond_both, cond-true, cond-false, cases_Bool, cases_eq, or_cases, or_left, or_right, and_parts, and_from, both_ways}
 use Rattle.std.proofs.lemmas.List.Elements.{All-push, All-filter, All-weaker, All-head, All-tail, All-nil, All-cons}
 use Rattle.std.proofs.lemmas.List.Folds.{find-append}
 use Rattle.std.proofs.lemmas.List.Kept.{AllPairs-filter}
 use Rattle.std.specs.List.{slice_index_or}
-use Rattle.std.specs.Option.{option_map, option_map_or, option_or}
-use Rattle.soft_timers.specs.Laws.{Call, Arm, Disarm, called, all_called, MayCallAll, CallsKeepTheWheel, TicksKeepTheWheel, DueAreInOrder, DueAreArmed, DisarmedIsOver, OverStaysOver, is_among, IsRunningBut, TicksLeaveTheDue, CallsAddNone, TurnsTakeOne, NoneIsRunning, RunsAfterTheTurns}
+use Rattle.std.specs.Option.{option_map, option_map_or, option_or, IsSome}
+use Rattle.soft_timers.specs.Laws.{Call, Arm, Disarm, called, all_called, MayCallAll, CallsKeepTheWheel, TicksKeepTheWheel, CallsSpareOthers, ArmedIsThere, DisarmedIsNone, CallsKeepRunning, DueAreInOrder, DueAreArmed, DisarmedIsOver, OverStaysOver, is_among, IsRunningBut, TicksLeaveTheDue, CallsAddNone, TurnsTakeOne, NoneIsRunning, RunsAfterTheTurns}
 use Rattle.soft_timers.specs.Timers.{TimerTable, IsWheel, IsRunning, armed, armed_for, disarmed, ticked, due_now, still}
 use Rattle.soft_timers.specs.declared.due.Armed.{Armed}
 use Rattle.soft_timers.proofs.Kept.{armed_keeps, disarmed_keeps, ticked_keeps}
@@ -102,7 +102,41 @@ pub over_stays_over : OverStaysOver
 over_stays_over w d (Arm id n) before over = over_armed w d id n before over
 over_stays_over w d (Disarm id) before over = over_disarmed w d id over
 
+-- what is armed under one number, by a call of its own and of another
+
+find_other-push : (id other : ℕ) (es : List Armed) (new : Armed) → (other ≡ id → ⊥) → new.id ≡ id
+    → find (λ e. e.id == other) (es ++ new ∷ []) ≡ find (λ e. e.id == other) es
+find_other-push id other es new apart own =
+    let missed : (new.id == other) ≡ false = ne_eqb new.id other (λ same. apart (sym same ∙ own)) in
+    find-append (λ (e : Armed). e.id == other) es (new ∷ [])
+    ∙ (ap (λ (o : Option Armed). option_or (find (λ e. e.id == other) es) o) (cond-false (new.id == other) (Some new) None missed) ∙ or-None (find (λ e. e.id == other) es)) where
+      or-None : (o : Option Armed) → option_or o None ≡ o
+      or-None None = refl
+      or-None (Some e) = refl
+
+pub calls_spare_others : CallsSpareOthers
+calls_spare_others w (Arm id n) other apart = find_other-push id other w.entries (record { id = id; expiry = w.ticks + n; arming = w.armings }) apart refl
+calls_spare_others w (Disarm id) other apart = find_other-without id other w.entries apart
+
+pub armed_is_there : ArmedIsThere
+armed_is_there w id n =
+    let new : Armed = record { id = id; expiry = w.ticks + n; arming = w.armings } in
+    let here : find (λ e. e.id == id) (new ∷ []) ≡ Some new = cond-true (id == id) (Some new) None (eq-eqb id id refl) in
+    subst IsSome (sym (find-append (λ (e : Armed). e.id == id) w.entries (new ∷ []) ∙ ap (option_or (find (λ e. e.id == id) w.entries)) here)) (or-Some (find (λ e. e.id == id) w.entries) new) where
+      or-Some : (o : Option Armed) (e : Armed) → IsSome (option_or o (Some e))
+      or-Some None e = refl
+      or-Some (Some d) e = refl
+
+pub disarmed_is_none : DisarmedIsNone
+disarmed_is_none w id = find_none-without id w.entries
+
 -- who has no tick left
+
+pub calls_keep_running : CallsKeepRunning
+calls_keep_running w (Arm id n) may running =
+    let new : Armed = record { id = id; expiry = w.ticks + n; arming = w.armings } in
+    All-push (λ e. w.ticks < e.expiry) w.entries new running (omega (arith, may.2))
+calls_keep_running w (Disarm id) may running = All-filter (λ e. not (e.id == id)) (λ e. w.ticks < e.expiry) w.entries running
 
 among_kept : (p : Armed → Bool) (es : List Armed) → All (λ e. p e ≡ true → is_among (filter p es) e ≡ true) es
 among_kept p [] = All-nil (λ e. p e ≡ true → is_among [] e ≡ true)

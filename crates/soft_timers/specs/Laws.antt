@@ -1,5 +1,5 @@
 -- What holds over all calls of a wheel.
-use Rattle.std.specs.Prelude.{ℕ, ◌≡◌, ◌^◌, ◌<◌, ◌==◌, ◌&&◌, ◌||◌, nat_lt, Bool, true, false, List, [], ◌∷◌, All, AllPairs, None, ⊤}
+use Rattle.std.specs.Prelude.{ℕ, ◌≡◌, ◌≢◌, ◌^◌, ◌<◌, ◌==◌, ◌&&◌, ◌||◌, nat_lt, Bool, true, false, List, [], ◌∷◌, All, AllPairs, IsSome, None, ⊤}
 use Rattle.std.specs.List.{list_any}
 use Rattle.soft_timers.specs.Timers.{TimerTable, IsWheel, IsRunning, armed, armed_for, disarmed, ticked, due_now, still}
 use Rattle.soft_timers.specs.declared.due.Armed.{Armed}
@@ -35,6 +35,21 @@ abbrev pub TicksKeepTheWheel : Type 0
 TicksKeepTheWheel =
     (w : TimerTable) → IsWheel w → IsRunning w → w.ticks < 2 ^ 63 → IsWheel (ticked w)
 
+-- a call changes what is armed under its own number alone
+abbrev pub own_number : Call → ℕ
+own_number (Arm id n) = id
+own_number (Disarm id) = id
+
+abbrev pub CallsSpareOthers : Type 0
+CallsSpareOthers =
+    (w : TimerTable) (c : Call) (id : ℕ) → id ≢ own_number c → armed (called w c) id ≡ armed w id
+
+abbrev pub ArmedIsThere : Type 0
+ArmedIsThere = (w : TimerTable) (id n : ℕ) → IsSome (armed (armed_for w id n) id)
+
+abbrev pub DisarmedIsNone : Type 0
+DisarmedIsNone = (w : TimerTable) (id : ℕ) → armed (disarmed w id) id ≡ None
+
 -- what is due is in order of arming
 abbrev pub DueAreInOrder : Type 0
 DueAreInOrder = (w : TimerTable) → IsWheel w → AllPairs (λ d e. d.arming < e.arming) (due_now w)
@@ -64,6 +79,9 @@ IsRunningBut ds w = All (λ e. (nat_lt w.ticks e.expiry || is_among ds e) ≡ tr
 -- its own away
 abbrev pub TicksLeaveTheDue : Type 0
 TicksLeaveTheDue = (w : TimerTable) → IsRunning w → IsRunningBut (due_now (ticked w)) (ticked w)
+
+abbrev pub CallsKeepRunning : Type 0
+CallsKeepRunning = (w : TimerTable) (c : Call) → MayCall w c → IsRunning w → IsRunning (called w c)
 
 abbrev pub CallsAddNone : Type 0
 CallsAddNone =

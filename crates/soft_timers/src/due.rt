@@ -67,6 +67,13 @@ impl Due {
         self.entry(i).id
     }
 
+    /// Forgets what was due.
+    pub fn clear(&mut self)
+        ensures { self.new ≡ [] }
+    {
+        self.entries.clear();
+    }
+
     /// Lists those that are due at a tick, and no others.
     pub(crate) fn list(&mut self, from: &[Armed], now: u64)
         requires { length from.now ≤ 512 }

@@ -10,7 +10,10 @@ mod wheel;
 
 pub use due::{Armed, Due};
 pub use id::{TimerId, Whose};
-pub use laws::{an_arming_is_over_once, calls_keep_the_wheel, each_has_a_tick_left};
+pub use laws::{
+    a_call_changes_its_own_alone, an_arming_is_over_once, calls_keep_the_wheel,
+    each_has_a_tick_left,
+};
 pub use wheel::Wheel;
 
 /// How many timeouts and timers there are: one for each thread, and one for each timer object.

@@ -1,8 +1,11 @@
-use Rattle.soft_timers.proofs.Turns.{ticks_leave_the_due, calls_add_none, turns_take_one, none_is_running, runs_after_the_turns}
+use Rattle.soft_timers.proofs.Turns.{ticks_leave_the_due, calls_keep_running, calls_add_none, turns_take_one, none_is_running, runs_after_the_turns}
 use Rattle.soft_timers.proofs.laws.each_has_a_tick_left.Goals as goal
 
 pub returns-clause-tick : goal.returns-clause-tick
 returns-clause-tick c = ticks_leave_the_due
+
+pub returns-clause-keeps : goal.returns-clause-keeps
+returns-clause-keeps c = calls_keep_running
 
 pub returns-clause-calls : goal.returns-clause-calls
 returns-clause-calls c = calls_add_none

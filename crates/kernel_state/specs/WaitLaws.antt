@@ -1,0 +1,63 @@
+-- The beginning and the end of a wait, and a tick, keep a kernel sound; what they raise and what they leave alone.
+use Rattle.std.specs.Prelude.{◌≡◌, ◌≢◌, ℕ, ◌^◌, ◌<◌, true, List, IsSome}
+use Rattle.tx_types.specs.declared.state.State.{State}
+use Rattle.tx_types.specs.declared.waits.End.{End}
+use Rattle.tx_types.specs.declared.waits.End.TheVariants.{Gone}
+use Rattle.ready_maps.specs.Sched.{is_ready}
+use Rattle.region_guard.specs.Memory.{Memory}
+use Rattle.suspend_lists.specs.Waits.{IsTable, WaitTable, begun, wait_of}
+use Rattle.suspend_lists.specs.declared.wait.Wait.{Wait}
+use Rattle.soft_timers.specs.Timers.{IsRunning, TimerTable}
+use Rattle.kernel_state.specs.Kernel.{is_thread}
+use Rattle.kernel_state.specs.Room.{HasRoom, RaisesCounts}
+use Rattle.kernel_state.specs.Serves.{Serves}
+use Rattle.kernel_state.specs.Sound.{IsSoundBut, IsWait}
+use Rattle.kernel_state.specs.ThreadChanges.{ended, over_by}
+use Rattle.kernel_state.specs.ThreadLaws.{Leaves}
+use Rattle.kernel_state.specs.Ticks.{advanced}
+use Rattle.kernel_state.specs.Waiting.{wait_begun, wait_ended}
+use Rattle.kernel_state.specs.declared.kernel.Kernel.{Kernel}
+
+-- a ready thread begins to wait
+abbrev pub BeginKeepsSound : Type 0
+BeginKeepsSound =
+    (but : List ℕ) (k : Kernel) (t : ℕ) (w : Wait) (ticks : ℕ) → IsSoundBut but k → is_thread k t ≡ true
+    → is_ready k.ready t ≡ true → IsWait w → IsTable (begun k.waits t w) → 0 < ticks → ticks < 2 ^ 32
+    → IsSoundBut but (wait_begun k t w ticks)
+
+-- the wait of a thread that goes on ends
+abbrev pub WaitEndKeepsSound : Type 0
+WaitEndKeepsSound =
+    (but : List ℕ) (k : Kernel) (g : Memory) (t : ℕ) (e : End) (value : List ℕ) → IsSoundBut but k
+    → IsSome (wait_of k.waits t) → e ≢ Gone → IsSoundBut but (wait_ended k g t e value).kernel
+
+-- a tick comes
+abbrev pub TickKeepsServing : Type 0
+TickKeepsServing = (k : Kernel) (g : Memory) → Serves k g → HasRoom k → Leaves (advanced k g)
+
+-- one change begins one wait at most, and arms one timeout at most; a tick is one, and an end raises no count
+abbrev pub BeginRaisesOne : Type 0
+BeginRaisesOne = (k : Kernel) (t : ℕ) (w : Wait) (ticks : ℕ) → RaisesCounts 1 k (wait_begun k t w ticks)
+
+abbrev pub WaitEndRaisesNone : Type 0
+WaitEndRaisesNone =
+    (k : Kernel) (g : Memory) (t : ℕ) (e : End) (value : List ℕ) → RaisesCounts 0 k (wait_ended k g t e value).kernel
+
+abbrev pub EndRaisesNone : Type 0
+EndRaisesNone =
+    (k : Kernel) (g : Memory) (t : ℕ) (state : State) → RaisesCounts 0 k (ended k g t state).kernel
+
+abbrev pub TickRaisesOne : Type 0
+TickRaisesOne = (k : Kernel) (g : Memory) → RaisesCounts 1 k (advanced k g).kernel
+
+-- the end of a thread changes no byte, and but for waits and timeouts its own entry and the scheduler alone
+abbrev pub with_waits : Kernel → WaitTable → TimerTable → Kernel
+with_waits k w h = record k { waits = w; wheel = h }
+
+abbrev pub EndKeepsMemory : Type 0
+EndKeepsMemory = (k : Kernel) (g : Memory) (t : ℕ) (state : State) → (ended k g t state).memory ≡ g
+
+abbrev pub EndChangesOne : Type 0
+EndChangesOne =
+    (k : Kernel) (g : Memory) (t : ℕ) (state : State) → let now = (ended k g t state).kernel in
+    now ≡ with_waits (over_by k t state) now.waits now.wheel
