@@ -81,7 +81,7 @@ module _ (laws : Laws) (w : World) (t : ℕ) (world : IsWorld w) (runs : w.parts
       event_leads laws.images laws.regions laws.owners w (after_run w t 1 h (record w.parts.memory { bytes = bytes })) Step world is
       (record {
         board = world.board;
-        serves = record { sound = laws.hart w.parts.kernel t h world.serves.sound below };
+        serves = record { sound = laws.hart w.parts.kernel t h world.serves.sound below; running = world.serves.running };
         memory = sound_bytes w.parts.memory bytes world.memory size;
         modules = world.modules;
         devices = world.devices;

@@ -25,7 +25,9 @@ use Rattle.kernel_state.specs.Thread.{is_over, is_state, is_waiting}
 use Rattle.kernel_state.specs.declared.answer.Answer.{Answer}
 use Rattle.kernel_state.specs.declared.answer.Answer.TheVariants.{Code, Value, Waits, Ended}
 use Rattle.kernel_state.specs.declared.kernel.Kernel.{Kernel}
-use Rattle.kernel_state.specs.ThreadChanges.{ended, started, suspended}
+use Rattle.kernel_state.specs.ThreadChanges.{ended, over_by, started, suspended}
+use Rattle.kernel_state.specs.Waiting.{wait_ended}
+use Rattle.tx_types.specs.declared.waits.End.TheVariants.{Gone}
 use Rattle.thread_calls.specs.Create.{block_at, block_refusal, created}
 use Rattle.thread_calls.specs.ObjectRows.{allocation, granting, object_allocate_row, object_deallocate_row, object_pointer_get_row}
 use Rattle.thread_calls.specs.ThreadRows.{creation, priority_change, resumption, slice_change, starting, threshold_change, thread_create_row, thread_delete_row, thread_terminate_row, thread_suspend_row, thread_resume_row, thread_relinquish_row, thread_identify_row, thread_info_get_row, thread_preemption_change_row, thread_priority_change_row, thread_time_slice_change_row, thread_reset_row, thread_complete_row}
@@ -91,7 +93,10 @@ suspended_owned ms k g t before =
     (λ _. cond_both (is_waiting (thread k t).state) _ k (Owned ms) (λ _. before) (λ _. before))
 
 pub ended_owned : (ms : List Module) (k : Kernel) (g : Memory) (t : ℕ) (state : State) → Owned ms k → OwnedChange ms (ended k g t state)
-ended_owned ms k g t state before = cond_both (is_over (thread k t).state) k _ (Owned ms) (λ _. before) (λ _. before)
+ended_owned ms k g t state before =
+    cond_both (is_waiting (thread k t).state) (wait_ended k g t Gone []) (quiet k g) (λ (c : Change). Owned ms (over_by c.kernel t state))
+    (λ _. cond_both (is_over (thread k t).state) _ _ (Owned ms) (λ _. before) (λ _. before))
+    (λ _. cond_both (is_over (thread k t).state) k _ (Owned ms) (λ _. before) (λ _. before))
 
 pub resumption_owned : (ms : List Module) (k : Kernel) (g : Memory) (t : ℕ) → Owned ms k → OwnedAfter ms (resumption k g t)
 unfolding resumption starting

@@ -1,14 +1,18 @@
 -- A kernel without objects is sound.
-use Rattle.std.proofs.Common.{◌≡◌, ℕ, ◌%◌, ◌<◌, true, IfSome, refl, ap, subst, sym, ◌∙◌}
-use Rattle.std.proofs.lemmas.Bool.{false≢true}
-use Rattle.std.proofs.lemmas.List.{get_or-replicate, length-replicate}
+use Rattle.std.proofs.Common.{◌≡◌, ℕ, ◌%◌, ◌<◌, true, Option, None, IfSome, refl, ap, subst, sym, ◌∙◌, ⊎_elim, arith}
+use Rattle.std.specs.Option.{option_map}
+use Rattle.std.proofs.lemmas.Bool.{cases_lt, false≢true}
+use Rattle.std.proofs.lemmas.List.{get_or-replicate, get_or_past, length-replicate}
 use Rattle.object_grants.specs.Slot.{free_slot}
 use Rattle.object_grants.specs.Table.{slot}
 use Rattle.object_grants.specs.declared.slot.Slot.{Slot}
 use Rattle.ready_maps.specs.Kept.{IsKept}
 use Rattle.ready_maps.specs.Sched.{new_sched}
+use Rattle.soft_timers.specs.Timers.{IsWheel, no_timers}
+use Rattle.suspend_lists.specs.Waits.{IsTable, new_table, pending, wait_of}
+use Rattle.suspend_lists.specs.declared.wait.Pending.{Pending}
 use Rattle.kernel_state.specs.Kernel.{blank_kernel, has_thread, is_thread, module_of, spot}
-use Rattle.kernel_state.specs.Sound.{IsSound, IsClean, IsEntry}
+use Rattle.kernel_state.specs.Sound.{IsSound, IsClean, IsEntry, IsTimeoutOf}
 use Rattle.kernel_state.specs.Spot.{blank_spot}
 use Rattle.kernel_state.specs.Thread.{blank_thread}
 use Rattle.kernel_state.specs.declared.spot.Spot.{Spot}
@@ -21,15 +25,24 @@ free_at o below = get_or-replicate 256 o (free_slot 0) (free_slot 0) below
 spot_at : (m : ℕ) → m < 16 → spot blank_kernel m ≡ blank_spot
 spot_at m below = get_or-replicate 16 m blank_spot blank_spot below
 
-pub blank_is_sound : IsKept (new_sched 32) → IsSound blank_kernel
-blank_is_sound kept = record {
+-- nobody waits
+none_waits : (t : ℕ) → wait_of new_table t ≡ None
+none_waits t = ap (option_map (λ p. p.wait)) (⊎_elim {C = pending new_table t ≡ None}
+    (λ below. get_or-replicate 256 t None None below)
+    (λ past. get_or_past new_table.waits t None (omega (arith, length-replicate {X = Option Pending} 256 None))) (cases_lt t 256))
+
+pub blank_is_sound : IsKept (new_sched 32) → IsTable new_table → IsWheel no_timers → IsSound blank_kernel
+blank_is_sound kept table wheel = record {
   formed = record {
     scheduler = kept;
     slots = length-replicate 256 (free_slot 0);
     threads = length-replicate 256 blank_thread;
     spots = length-replicate 16 blank_spot;
     clean = λ o below. subst (λ (s : Slot). IsClean s s.state) (sym (free_at o below)) (refl, refl, refl);
-    entries = λ t below. subst (λ (s : Slot). IsEntry blank_kernel t (has_thread s)) (sym (free_at t below)) refl;
+    waits = table;
+    wheel = wheel;
+    entries = λ t below. subst (λ (s : Slot). IsEntry blank_kernel t (has_thread s)) (sym (free_at t below)) (refl, none_waits t);
+    timeouts = λ i. subst (λ o. IsTimeoutOf o None) (sym (none_waits i)) refl;
     places = λ m below. record {
       shell = ap (λ (s : Spot). s.shell % 4) (spot_at m below);
       callback = subst (λ (s : Spot). IfSome s.callback (λ t. (t < 256) × (is_thread blank_kernel t ≡ true) × (module_of blank_kernel t ≡ m))) (sym (spot_at m below)) tt;

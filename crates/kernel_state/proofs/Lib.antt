@@ -1,8 +1,12 @@
 pub mod Blank
+pub mod Ends
 pub mod Making
 pub mod NamedIsLive
 pub mod Row
 pub mod Running
 pub mod Scheduling
 pub mod Sound
+pub mod States
 pub mod ThreadChanges
+pub mod Ticks
+pub mod WaitChanges

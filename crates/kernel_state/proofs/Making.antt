@@ -11,10 +11,11 @@ use Rattle.object_grants.specs.declared.slot.Slot.{Slot}
 use Rattle.object_grants.specs.declared.slot.SlotState.{SlotState}
 use Rattle.object_grants.specs.declared.slot.SlotState.TheVariants.{Free, Empty, Live}
 use Rattle.ready_maps.specs.Sched.{is_ready, pr, th}
+use Rattle.suspend_lists.specs.Waits.{wait_of}
 use Rattle.kernel_state.specs.Kernel.{thread, has_thread, is_thread, module_of, spot, made_thread, removed_thread, unless_is, effective_priority, effective_threshold}
 use Rattle.kernel_state.specs.Laws.{IsRight, OneThreadIsMade, OneThreadIsRemoved}
 use Rattle.kernel_state.specs.Scheduling.{PriorityChangesOne}
-use Rattle.kernel_state.specs.Sound.{IsSound, IsSettled, IsThread, IsEntry, IsSpot, IsSlice, IsClean}
+use Rattle.kernel_state.specs.Sound.{IsSound, IsSettled, IsThread, IsEntry, IsSpot, IsSlice, IsClean, IsWaitOf}
 use Rattle.kernel_state.specs.Spot.{blank_spot}
 use Rattle.kernel_state.specs.Thread.{blank_thread, new_thread, is_over, is_state}
 use Rattle.kernel_state.specs.declared.kernel.Kernel.{Kernel}
@@ -22,6 +23,7 @@ use Rattle.kernel_state.specs.declared.spot.Spot.{Spot}
 use Rattle.kernel_state.specs.declared.thread.Thread.{Thread}
 use Rattle.kernel_state.specs.declared.thread.ThreadSpec.{ThreadSpec}
 use Rattle.kernel_state.proofs.Sound.{alike_if_same, sound_from, IfSome-from, spot_stays}
+use Rattle.kernel_state.proofs.States.{none_if_over}
 
 -- a slot in one state is in no other
 no_thread_if_empty : (s : Slot) → is_in Empty s ≡ true → has_thread s ≡ false
@@ -59,7 +61,8 @@ one_thread_is_made sets k o name s sound empty kind owner no_zero at_most level 
     let slot_there = λ (u : ℕ) (other : u ≢ o). get_or-set_other k.objects o u made (free_slot 0) other in
     let here : thread after o ≡ new_thread s = get_or-set_same k.threads o (new_thread s) blank_thread (omega (arith, sound.formed.threads)) in
     let there = λ (u : ℕ) (other : u ≢ o). get_or-set_other k.threads o u (new_thread s) blank_thread other in
-    let absent : is_ready k.ready o ≡ false = subst (IsEntry k o) none (sound.formed.entries o below) in
+    let entry : IsEntry k o false = subst (IsEntry k o) none (sound.formed.entries o below) in
+    let absent = entry.0 in
     let set = sets k.ready o s.priority s.threshold sound.formed.scheduler below at_most level in
     let live : is_thread after o ≡ true = ap has_thread slot_here ∙ kind in
     let is_made : IsThread after o = record {
@@ -69,6 +72,7 @@ one_thread_is_made sets k o name s sound empty kind owner no_zero at_most level 
       threshold = subst (λ (t : Thread). t.threshold ≤ t.priority) (sym here) at_most;
       slice = subst (λ (t : Thread). IsSlice t.slice t.left) (sym here) (whole_slice s.slice);
       held = λ is_held. absurd (false≢true (sym (ap (λ (t : Thread). t.held) here) ∙ is_held));
+      wait = subst (λ (t : Thread). IsWaitOf t.state (wait_of k.waits o)) (sym here) (subst (IsWaitOf Suspended) (sym entry.1) refl);
     } in
     let itself : IsRight [] after o = record {
       entry = subst (IsEntry after o) (sym live) is_made;
@@ -80,6 +84,9 @@ one_thread_is_made sets k o name s sound empty kind owner no_zero at_most level 
       slots = length-set k.objects o made;
       threads = length-set k.threads o (new_thread s);
       spots = refl;
+      waits = sound.formed.waits;
+      wheel = sound.formed.wheel;
+      timeouts = sound.formed.timeouts;
       clean = λ u u_below. ⊎_elim
           (λ (same : u ≡ o). subst (λ n. IsClean (slot after.objects n) (slot after.objects n).state) (sym same) (subst (λ (x : Slot). IsClean x x.state) (sym slot_here) no_zero))
           (λ (other : u ≢ o). subst (λ (x : Slot). IsClean x x.state) (sym (slot_there u other)) (sound.formed.clean u u_below))
@@ -93,6 +100,7 @@ one_thread_is_made sets k o name s sound empty kind owner no_zero at_most level 
             ready = set.others.ready u other;
             priority = set.others.priority u other;
             threshold = set.others.threshold u other;
+            wait = refl;
           }))
           (cases_eq u o);
       places = λ m m_below. spot_stays k after m refl (λ c c_below is_one of_m.
@@ -131,7 +139,7 @@ one_thread_is_removed k t sound below live over =
     let not_ready : is_ready k.ready t ≡ false = sound_thread.ready ∙ over_not_ready (thread k t).state over in
     let gone : is_thread after t ≡ false = ap has_thread slot_here in
     let itself : IsRight [] after t = record {
-      entry = subst (IsEntry after t) (sym gone) not_ready;
+      entry = subst (IsEntry after t) (sym gone) (not_ready, none_if_over (thread k t).state (wait_of k.waits t) over sound_thread.wait);
       settled = λ is_one _. absurd (false≢true (sym gone ∙ is_one));
     } in
     let callback_stays = λ (c : ℕ) (other : c ≢ t) (is_one : is_thread k c ≡ true). ap has_thread (slot_there c other) ∙ is_one in
@@ -141,6 +149,9 @@ one_thread_is_removed k t sound below live over =
       slots = length-set k.objects t emptied;
       threads = refl;
       spots = length-set k.spots own left;
+      waits = sound.formed.waits;
+      wheel = sound.formed.wheel;
+      timeouts = sound.formed.timeouts;
       clean = λ u u_below. ⊎_elim
           (λ (same : u ≡ t). subst (λ n. IsClean (slot after.objects n) (slot after.objects n).state) (sym same) (subst (λ (x : Slot). IsClean x x.state) (sym slot_here) (refl, refl)))
           (λ (other : u ≢ t). subst (λ (x : Slot). IsClean x x.state) (sym (slot_there u other)) (sound.formed.clean u u_below))
@@ -154,6 +165,7 @@ one_thread_is_removed k t sound below live over =
             ready = refl;
             priority = refl;
             threshold = refl;
+            wait = refl;
           }))
           (cases_eq u t);
       places = λ m m_below. ⊎_elim

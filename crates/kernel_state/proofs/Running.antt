@@ -24,7 +24,7 @@ running_is_ready k t sound runs =
 
 by_entry : (k : Kernel) (t : ℕ) (b : Bool) → IsEntry k t b → is_ready k.ready t ≡ true → b ≡ true
 by_entry k t true sound ready = refl
-by_entry k t false sound ready = absurd (false≢true (sym sound ∙ ready))
+by_entry k t false sound ready = absurd (false≢true (sym sound.0 ∙ ready))
 
 -- what holds of each thread in a list holds of one that stands there
 All-has : (P : ℕ → Type 0) (xs : List ℕ) (t : ℕ) → All P xs → has t xs ≡ true → P t

@@ -6,12 +6,15 @@ use Rattle.tx_types.specs.declared.state.State.TheVariants.{Ready}
 use Rattle.object_grants.specs.Table.{slot, with_slot}
 use Rattle.object_grants.specs.Slot.{free_slot}
 use Rattle.object_grants.specs.declared.slot.Slot.{Slot}
-use Rattle.ready_maps.specs.Sched.{Sched}
+use Rattle.ready_maps.specs.Sched.{Sched, has}
 use Rattle.rv_core.specs.Hart.{HartState}
+use Rattle.soft_timers.specs.Timers.{IsWheel, TimerTable, armed}
+use Rattle.soft_timers.specs.declared.due.Armed.{Armed}
+use Rattle.suspend_lists.specs.Waits.{WaitTable, wait_of}
 use Rattle.kernel_state.specs.Kernel.{thread, with_thread, has_thread, is_thread, module_of, spot, with_spot, effective_priority, effective_threshold}
-use Rattle.kernel_state.specs.Laws.{AreAlike, EntryStays, IsRight, SoundFrom, EffectiveStays, EffectiveFits, with_both, OneThreadChanges, OneStateChanges, OneHartChanges, OneSlotChanges, OneSpotChanges, ThreadIsRight}
+use Rattle.kernel_state.specs.Laws.{AreAlike, EntryStays, IsRight, SoundFrom, EffectiveStays, EffectiveFits, with_all, with_both, WaitsChangeOnly, Suits, OneThreadChanges, OneStateChanges, OneWaitChanges, OneHartChanges, OneSlotChanges, OneSpotChanges, ThreadIsRight}
 use Rattle.kernel_state.specs.Scheduling.{ChangesOnly}
-use Rattle.kernel_state.specs.Sound.{IsSoundBut, IsThread, IsEntry, IsSpot, IsSlice, IsClean}
+use Rattle.kernel_state.specs.Sound.{IsSettled, IsSoundBut, IsThread, IsEntry, IsSpot, IsSlice, IsClean, IsTimeoutOf, IsWaitOf}
 use Rattle.kernel_state.specs.Spot.{blank_spot}
 use Rattle.kernel_state.specs.Thread.{blank_thread, is_waiting, is_state}
 use Rattle.kernel_state.specs.declared.kernel.Kernel.{Kernel}
@@ -66,11 +69,12 @@ thread_stays k now u levels same live sound =
       threshold = omega (arith, sound.threshold, alike.threshold, alike.priority);
       slice = subst (λ n. IsSlice n (thread now u).left) (sym alike.slice) (subst (IsSlice (thread k u).slice) (sym alike.left) sound.slice);
       held = λ held. subst (λ s. is_waiting s ≡ true) (sym alike.state) (sound.held (sym alike.held ∙ held));
+      wait = subst (λ s. IsWaitOf s (wait_of now.waits u)) (sym alike.state) (subst (IsWaitOf (thread k u).state) (sym same.wait) sound.wait);
     }
 
 entry_stays : (k now : Kernel) (u : ℕ) (b : Bool) → now.ready.levels ≡ k.ready.levels → EntryStays k now u → is_thread k u ≡ b → IsEntry k u b → IsEntry now u b
 entry_stays k now u true levels same live sound = thread_stays k now u levels same live sound
-entry_stays k now u false levels same live sound = same.ready ∙ sound
+entry_stays k now u false levels same live sound = (same.ready ∙ sound.0, same.wait ∙ sound.1)
 
 right_stays : (but : List ℕ) (k now : Kernel) (u : ℕ) → now.ready.levels ≡ k.ready.levels → EntryStays k now u → IsRight but k u → IsRight but now u
 right_stays but k now u levels same right =
@@ -93,8 +97,11 @@ sound_from but k now sound from =
         slots = slots;
         threads = from.threads ∙ sound.formed.threads;
         spots = from.spots ∙ sound.formed.spots;
+        waits = from.waits;
+        wheel = from.wheel;
         clean = from.clean;
         entries = λ u below. (right u below).entry;
+        timeouts = from.timeouts;
         places = from.places;
       };
       settled = λ u live outside. (right u (below_256 now u slots live)).settled live outside;
@@ -116,15 +123,35 @@ spot_stays k now m same stays sound = record {
 }
 
 -- a thread that isn't the one that changes
-other_stays : (k : Kernel) (t u : ℕ) (now : Thread) (s : Sched) → ChangesOnly k.ready s t → u ≢ t → EntryStays k (with_both k t now s) u
-other_stays k t u now s changes other = record {
+other_stays : (k : Kernel) (t u : ℕ) (now : Thread) (s : Sched) (w : WaitTable) (h : TimerTable) → ChangesOnly k.ready s t → WaitsChangeOnly k w h t → u ≢ t
+    → EntryStays k (with_all k t now s w h) u
+other_stays k t u now s w h changes waits other = record {
   live = refl;
-  alike = alike_if_same (thread k u) (thread (with_both k t now s) u) (get_or-set_other k.threads t u now blank_thread other);
+  alike = alike_if_same (thread k u) (thread (with_all k t now s w h) u) (get_or-set_other k.threads t u now blank_thread other);
   owner = λ _. refl;
   ready = changes.ready u other;
   priority = changes.priority u other;
   threshold = changes.threshold u other;
+  wait = waits.others u other;
 }
+
+-- waits and timeouts as they were
+pub same_waits : (but : List ℕ) (k : Kernel) (t : ℕ) → IsSoundBut but k → WaitsChangeOnly k k.waits k.wheel t
+same_waits but k t sound = record {
+  waits = sound.formed.waits;
+  wheel = sound.formed.wheel;
+  others = λ u other. refl;
+  other_timeouts = λ i other. refl;
+  timeout = sound.formed.timeouts t;
+}
+
+-- each timeout is right where that of one thread is
+timeouts_right : (but : List ℕ) (k : Kernel) (t : ℕ) (w : WaitTable) (h : TimerTable) → IsSoundBut but k → WaitsChangeOnly k w h t → (i : ℕ) → IsTimeoutOf (wait_of w i) (armed h i)
+timeouts_right but k t w h sound waits i =
+    ⊎_elim (λ (same : i ≡ t). subst (λ n. IsTimeoutOf (wait_of w n) (armed h n)) (sym same) waits.timeout)
+    (λ (other : i ≢ t). subst (λ o. IsTimeoutOf o (armed h i)) (sym (waits.others i other))
+    (subst (IsTimeoutOf (wait_of k.waits i)) (sym (waits.other_timeouts i other)) (sound.formed.timeouts i)))
+    (cases_eq i t)
 
 -- no thread changes its module
 modules_stay : (k : Kernel) (t u : ℕ) (now : Thread) → t < length k.threads → now.module ≡ module_of k t → module_of (with_thread k t now) u ≡ module_of k u
@@ -133,9 +160,12 @@ modules_stay k t u now size own = ⊎_elim
     (ap (λ (x : Thread). x.module) (get_or-set_same k.threads t now blank_thread size) ∙ own))
     (λ (other : u ≢ t). ap (λ (x : Thread). x.module) (get_or-set_other k.threads t u now blank_thread other)) (cases_eq u t)
 
-pub one_thread_changes : OneThreadChanges
-one_thread_changes but k t now s sound live own changes suits settled =
-    let after = with_both k t now s in
+-- one thread changes, and with it the scheduler, waits and timeouts
+one_changes : (but : List ℕ) (k : Kernel) (t : ℕ) (now : Thread) (s : Sched) (w : WaitTable) (h : TimerTable) → IsSoundBut but k → is_thread k t ≡ true
+    → now.module ≡ module_of k t → ChangesOnly k.ready s t → WaitsChangeOnly k w h t → Suits s (wait_of w t) t now
+    → (has t but ≡ false → IsSettled (with_all k t now s w h) t) → IsSoundBut but (with_all k t now s w h)
+one_changes but k t now s w h sound live own changes waits suits settled =
+    let after = with_all k t now s w h in
     let below = below_256 k t sound.formed.slots live in
     let size : t < length k.threads = omega (arith, sound.formed.threads) in
     let here : thread after t ≡ now = get_or-set_same k.threads t now blank_thread size in
@@ -147,6 +177,7 @@ one_thread_changes but k t now s sound live own changes suits settled =
       threshold = subst (λ (x : Thread). x.threshold ≤ x.priority) (sym here) suits.threshold;
       slice = subst (λ (x : Thread). IsSlice x.slice x.left) (sym here) suits.slice;
       held = subst (λ (x : Thread). x.held ≡ true → is_waiting x.state ≡ true) (sym here) suits.held;
+      wait = subst (λ (x : Thread). IsWaitOf x.state (wait_of w t)) (sym here) suits.wait;
     } in
     let itself : IsRight but after t = record { entry = subst (IsEntry after t) (sym live) facts; settled = λ _ outside. settled outside } in
     sound_from but k after sound (record {
@@ -155,26 +186,39 @@ one_thread_changes but k t now s sound live own changes suits settled =
       slots = refl;
       threads = length-set k.threads t now;
       spots = refl;
+      waits = waits.waits;
+      wheel = waits.wheel;
       clean = sound.formed.clean;
-      entries = λ u u_below. ⊎_elim (λ (same : u ≡ t). inr (subst (IsRight but after) (sym same) itself)) (λ (other : u ≢ t). inl (other_stays k t u now s changes other)) (cases_eq u t);
+      entries = λ u u_below. ⊎_elim (λ (same : u ≡ t). inr (subst (IsRight but after) (sym same) itself)) (λ (other : u ≢ t). inl (other_stays k t u now s w h changes waits other)) (cases_eq u t);
+      timeouts = timeouts_right but k t w h sound waits;
       places = λ m m_below. spot_stays k after m refl (λ c c_below is_one of_m. (is_one, modules_stay k t c now size own ∙ of_m)) (sound.formed.places m m_below);
     })
 
-pub one_state_changes : OneStateChanges
-one_state_changes but k t now s sound live keeps ready slice held =
+pub one_thread_changes : OneThreadChanges
+one_thread_changes but k t now s sound live own changes suits settled =
+    one_changes but k t now s k.waits k.wheel sound live own changes (same_waits but k t sound) suits settled
+
+pub one_wait_changes : OneWaitChanges
+one_wait_changes but k t now s w h sound live keeps ready slice held wait waits =
     let was = thread_of but k t sound live in
+    let after = with_all k t now s w h in
     let below = below_256 k t sound.formed.slots live in
-    let here : thread (with_both k t now s) t ≡ now = get_or-set_same k.threads t now blank_thread (omega (arith, sound.formed.threads)) in
-    let effective = effective_stays k (with_both k t now s) t (ap (λ (x : Thread). x.priority) here ∙ keeps.priority) in
-    one_thread_changes but k t now s sound live keeps.module keeps.others (record {
+    let here : thread after t ≡ now = get_or-set_same k.threads t now blank_thread (omega (arith, sound.formed.threads)) in
+    let effective = effective_stays k after t (ap (λ (x : Thread). x.priority) here ∙ keeps.priority) in
+    one_changes but k t now s w h sound live keeps.module keeps.others waits (record {
       ready = ready;
       priority = omega (arith, was.priority, keeps.priority, keeps.others.levels);
       threshold = omega (arith, was.threshold, keeps.priority, keeps.threshold);
       slice = slice;
       held = held;
+      wait = wait;
     }) (λ outside.
     let settled = sound.settled t live outside in
     record { priority = keeps.in_scheduler ∙ (settled.priority ∙ sym effective.0); threshold = keeps.threshold_in_scheduler ∙ (settled.threshold ∙ sym (effective.1 (ap (λ (x : Thread). x.threshold) here ∙ keeps.threshold))) })
+
+pub one_state_changes : OneStateChanges
+one_state_changes but k t now s sound live keeps ready slice held wait =
+    one_wait_changes but k t now s k.waits k.wheel sound live keeps ready slice held wait (same_waits but k t sound)
 
 -- a thread with other registers
 hart_alike : (k : Kernel) (t u : ℕ) (h : HartState) → t < length k.threads → AreAlike (thread k u) (thread (with_thread k t (record (thread k t) { hart = h })) u)
@@ -187,18 +231,21 @@ hart_alike k t u h size =
     (subst (AreAlike (thread k t)) (sym (get_or-set_same k.threads t now blank_thread size)) itself))
     (λ (other : u ≢ t). alike_if_same (thread k u) (thread after u) (get_or-set_other k.threads t u now blank_thread other)) (cases_eq u t)
 
-pub one_hart_changes : OneHartChanges
-one_hart_changes k t h sound below =
+pub hart_changes : (but : List ℕ) (k : Kernel) (t : ℕ) (h : HartState) → IsSoundBut but k → t < 256 → IsSoundBut but (with_thread k t (record (thread k t) { hart = h }))
+hart_changes but k t h sound below =
     let now : Thread = record (thread k t) { hart = h } in
     let after = with_thread k t now in
     let size : t < length k.threads = omega (arith, sound.formed.threads) in
-    sound_from [] k after sound (record {
+    sound_from but k after sound (record {
       scheduler = sound.formed.scheduler;
       levels = refl;
       slots = refl;
       threads = length-set k.threads t now;
       spots = refl;
+      waits = sound.formed.waits;
+      wheel = sound.formed.wheel;
       clean = sound.formed.clean;
+      timeouts = sound.formed.timeouts;
       entries = λ u u_below. inl (record {
         live = refl;
         alike = hart_alike k t u h size;
@@ -206,8 +253,39 @@ one_hart_changes k t h sound below =
         ready = refl;
         priority = refl;
         threshold = refl;
+        wait = refl;
       });
       places = λ m m_below. spot_stays k after m refl (λ c c_below is_one of_m. (is_one, modules_stay k t c now size refl ∙ of_m)) (sound.formed.places m m_below);
+    })
+
+pub one_hart_changes : OneHartChanges
+one_hart_changes k t h sound below = hart_changes [] k t h sound below
+
+-- timeouts and the clock move on, and the list of what is due changes
+pub time_changes : (but : List ℕ) (k : Kernel) (wheel : TimerTable) (clock : ℕ) (due : List Armed) → IsSoundBut but k → IsWheel wheel
+    → ((i : ℕ) → armed wheel i ≡ armed k.wheel i) → IsSoundBut but (record k { wheel = wheel; clock = clock; due = due })
+time_changes but k wheel clock due sound right same =
+    let after : Kernel = record k { wheel = wheel; clock = clock; due = due } in
+    sound_from but k after sound (record {
+      scheduler = sound.formed.scheduler;
+      levels = refl;
+      slots = refl;
+      threads = refl;
+      spots = refl;
+      waits = sound.formed.waits;
+      wheel = right;
+      clean = sound.formed.clean;
+      timeouts = λ i. subst (IsTimeoutOf (wait_of k.waits i)) (sym (same i)) (sound.formed.timeouts i);
+      entries = λ u u_below. inl (record {
+        live = refl;
+        alike = alike_if_same (thread k u) (thread k u) refl;
+        owner = λ _. refl;
+        ready = refl;
+        priority = refl;
+        threshold = refl;
+        wait = refl;
+      });
+      places = λ m m_below. spot_stays k after m refl (λ c c_below is_one of_m. (is_one, of_m)) (sound.formed.places m m_below);
     })
 
 pub one_spot_changes : OneSpotChanges
@@ -219,7 +297,10 @@ one_spot_changes k m now sound right =
       slots = refl;
       threads = refl;
       spots = length-set k.spots m now;
+      waits = sound.formed.waits;
+      wheel = sound.formed.wheel;
       clean = sound.formed.clean;
+      timeouts = sound.formed.timeouts;
       entries = λ u u_below. inl (record {
         live = refl;
         alike = alike_if_same (thread k u) (thread k u) refl;
@@ -227,6 +308,7 @@ one_spot_changes k m now sound right =
         ready = refl;
         priority = refl;
         threshold = refl;
+        wait = refl;
       });
       places = λ n n_below. ⊎_elim
           (λ (same : n ≡ m).
@@ -255,6 +337,9 @@ one_slot_changes k o now sound below clean same_kind same_owner =
       slots = length-set k.objects o now;
       threads = refl;
       spots = refl;
+      waits = sound.formed.waits;
+      wheel = sound.formed.wheel;
+      timeouts = sound.formed.timeouts;
       clean = λ u u_below. ⊎_elim
           (λ (same : u ≡ o). subst (λ n. IsClean (slot after.objects n) (slot after.objects n).state) (sym same) (subst (λ (x : Slot). IsClean x x.state) (sym here) clean))
           (λ (other : u ≢ o). subst (λ (x : Slot). IsClean x x.state) (sym (there u other)) (sound.formed.clean u u_below))
@@ -266,6 +351,7 @@ one_slot_changes k o now sound below clean same_kind same_owner =
         ready = refl;
         priority = refl;
         threshold = refl;
+        wait = refl;
       });
       places = λ m m_below. spot_stays k after m refl (λ c c_below is_one of_m. (threads c ∙ is_one, of_m)) (sound.formed.places m m_below);
     })

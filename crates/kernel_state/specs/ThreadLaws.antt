@@ -7,22 +7,24 @@ use Rattle.region_guard.specs.Memory.{Memory}
 use Rattle.kernel_state.specs.Change.{Change}
 use Rattle.kernel_state.specs.Kernel.{thread, is_thread}
 use Rattle.kernel_state.specs.Serves.{Serves}
-use Rattle.kernel_state.specs.Sound.{IsSoundBut}
+use Rattle.kernel_state.specs.Sound.{IsSound, IsSoundBut}
 use Rattle.kernel_state.specs.Thread.{is_over, is_state, is_waiting}
-use Rattle.kernel_state.specs.ThreadChanges.{made_ready, made_unready, with_fresh, with_held, started, suspended, ended, reset}
+use Rattle.kernel_state.specs.Readying.{made_ready, made_unready}
+use Rattle.kernel_state.specs.ThreadChanges.{with_fresh, with_held, started, suspended, ended, reset}
 use Rattle.kernel_state.specs.declared.kernel.Kernel.{Kernel}
 
--- a thread that isn't ready, and for which no suspension is held, becomes ready
+-- a thread that neither is ready nor waits becomes ready
 abbrev pub ReadyKeepsSound : Type 0
 ReadyKeepsSound =
     (but : List ℕ) (k : Kernel) (t : ℕ) → IsSoundBut but k → is_thread k t ≡ true → is_ready k.ready t ≡ false
-    → (thread k t).held ≡ false → IsSoundBut but (made_ready k t)
+    → is_waiting (thread k t).state ≡ false → IsSoundBut but (made_ready k t)
 
--- a ready thread is suspended, ends, or begins to wait
+-- a ready thread is suspended, or ends
 abbrev pub UnreadyKeepsSound : Type 0
 UnreadyKeepsSound =
     (but : List ℕ) (k : Kernel) (t : ℕ) (state : State) → IsSoundBut but k → is_thread k t ≡ true
-    → is_ready k.ready t ≡ true → is_state state Ready ≡ false → IsSoundBut but (made_unready k t state)
+    → is_ready k.ready t ≡ true → is_state state Ready ≡ false → is_waiting state ≡ false
+    → IsSoundBut but (made_unready k t state)
 
 -- a thread that waits is suspended at the end of its wait, or isn't any more
 abbrev pub HeldKeepsSound : Type 0
@@ -34,6 +36,12 @@ abbrev pub FreshKeepsSound : Type 0
 FreshKeepsSound =
     (but : List ℕ) (k : Kernel) (t : ℕ) (fresh : Bool) → IsSoundBut but k → is_thread k t ≡ true
     → IsSoundBut but (with_fresh k t fresh)
+
+-- a thread ends, whether it waits or not
+abbrev pub EndKeepsSound : Type 0
+EndKeepsSound =
+    (k : Kernel) (g : Memory) (t : ℕ) (state : State) → IsSound k → is_thread k t ≡ true
+    → (state ≡ Completed) ⊎ (state ≡ Terminated) → IsSound (ended k g t state).kernel
 
 -- what a change leaves serves
 abbrev pub Leaves : Change → Type 0

@@ -76,26 +76,20 @@ out_of_wait k g t e = record {
 }
 
 -- where the result goes of a wait that ends so
-abbrev pub result_of : Wait → End → Option ℕ
-result_of w Satisfied = wanted_at w.asks
+abbrev pub result_of : Option Wait → End → Option ℕ
+result_of w Satisfied = option_and_then (λ x. wanted_at x.asks) w
 result_of w TimedOut = None
 result_of w Aborted = None
 result_of w Deleted = None
 result_of w Gone = None
 
--- what the call answers whose wait ends so: after a timeout, what it said itself; who is gone gets no answer
-abbrev pub answer_of : Wait → End → Option ℕ
+-- what the call answers whose wait ends so: after a timeout what it said itself, and none for who is gone
+abbrev pub answer_of : Option Wait → End → Option ℕ
 answer_of w Satisfied = Some success
-answer_of w TimedOut = Some w.code
+answer_of w TimedOut = option_map (λ x. x.code) w
 answer_of w Aborted = Some wait_aborted
 answer_of w Deleted = Some deleted
 answer_of w Gone = None
-
-abbrev pub result_at : Kernel → ℕ → End → Option ℕ
-result_at k t e = option_and_then (λ w. result_of w e) (wait_of k.waits t)
-
-abbrev pub answer_at : Kernel → ℕ → End → Option ℕ
-answer_at k t e = option_and_then (λ w. answer_of w e) (wait_of k.waits t)
 
 abbrev pub with_result : Memory → Option ℕ → List ℕ → Memory
 with_result g None value = g
@@ -104,7 +98,7 @@ with_result g (Some to) value = with_words g to value
 -- the result of a thread's wait may be stored there
 abbrev pub MayHaveResult : Kernel → Memory → ℕ → End → List ℕ → Type 0
 MayHaveResult k g t e value =
-    IfSome (result_at k t e) (λ to. may g (module_of k t) Store to (4 * length value) ≡ true)
+    IfSome (result_of (wait_of k.waits t) e) (λ to. may g (module_of k t) Store to (4 * length value) ≡ true)
 
 abbrev pub with_answer_to : Kernel → ℕ → Option ℕ → Kernel
 with_answer_to k t None = k
@@ -125,11 +119,13 @@ released k t Aborted = gone_on k t
 released k t Deleted = gone_on k t
 released k t Gone = k
 
--- The end of a wait, in order: the thread leaves its place, the result is written where its call asked, a0 is set, the owner
--- of an inheriting mutex is settled, and the thread goes on.
+-- The end of a wait, in order: the thread leaves its place, the result is written where its call
+-- asked, a0 is set, the owner of an inheriting mutex is settled, and the thread goes on.
 abbrev pub wait_ended : Kernel → Memory → ℕ → End → List ℕ → Change
 wait_ended k g t e value =
+    let w = wait_of k.waits t in
+    let place = place_of k.waits t in
     followed (out_of_wait k g t e) (λ now h.
-    followed (quiet now (with_result h (result_at k t e) value)) (λ now h.
-    followed (quiet (with_answer_to now t (answer_at k t e)) h) (λ now h.
-    followed (quiet (owner_settled now (place_of k.waits t)) h) (λ now h. quiet (released now t e) h))))
+    followed (quiet now (with_result h (result_of w e) value)) (λ now h.
+    followed (quiet (with_answer_to now t (answer_of w e)) h) (λ now h.
+    followed (quiet (owner_settled now place) h) (λ now h. quiet (released now t e) h))))

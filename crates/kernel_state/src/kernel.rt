@@ -20,9 +20,9 @@ use crate::threads::Threads;
 use object_grants::{Objects, SlotState};
 use ready_maps::Ready;
 use rv_core::Hart;
-use soft_timers::{Due, Wheel};
+use soft_timers::{Due, Wheel, calls_keep_the_wheel};
 use std::alloc::Global;
-use suspend_lists::Waits;
+use suspend_lists::{Waits, calls_keep_the_table};
 use tx_types::{Kind, ModNo, Name, NoMemory, ObjNo, Prio, State, ThreadNo, Thresh};
 
 /// How many priorities a new kernel has.
@@ -49,6 +49,8 @@ impl Kernel {
         ensures blank { IfOk result (λ k. k ≡ blank_kernel) }
         ensures sound { IfOk result IsSound }
     {
+        calls_keep_the_table();
+        calls_keep_the_wheel();
         let ready = Ready::new(alloc, PRIORITIES)?;
         let objects = Objects::new(alloc)?;
         let threads = Threads::new(alloc)?;

@@ -7,7 +7,7 @@ ghost use Rattle.kernel_state.specs.Scheduling.{ReadyChangesOne, UnreadyChangesO
 ghost use Rattle.kernel_state.specs.Laws.{EffectiveStays, EffectiveFits, SoundFrom, OneThreadChanges, OneStateChanges, OneWaitChanges, OneHartChanges, OneSlotChanges, OneSpotChanges, OneThreadIsMade, OneThreadIsRemoved, RunningIsReady, ReadyIsThread, ThreadIsRight};
 ghost use Rattle.kernel_state.specs.Row.{AnsweredIsKept, ChangedIsKept, DoneIsKept, WrittenIsKept, UnlessIsKept, FoundIsKept, GivenIsKept, EitherIsKept, RunningCalls};
 ghost use Rattle.kernel_state.specs.WaitLaws.{BeginKeepsSound, WaitEndKeepsSound, TickKeepsServing, BeginRaisesOne, WaitEndRaisesNone, EndRaisesNone, TickRaisesOne, EndKeepsMemory, EndChangesOne};
-ghost use Rattle.kernel_state.specs.ThreadLaws.{ReadyKeepsSound, UnreadyKeepsSound, HeldKeepsSound, FreshKeepsSound, StartKeepsServing, SuspendKeepsServing, EndKeepsServing, ResetKeepsServing};
+ghost use Rattle.kernel_state.specs.ThreadLaws.{ReadyKeepsSound, UnreadyKeepsSound, HeldKeepsSound, FreshKeepsSound, EndKeepsSound, StartKeepsServing, SuspendKeepsServing, EndKeepsServing, ResetKeepsServing};
 
 use flat_ram::a_write_changes_its_range_alone;
 use ready_maps::laws::{a_move_changes_its_thread_alone, moves_keep_the_facts};
@@ -55,14 +55,19 @@ pub fn a_kernel_stays_sound()
     a_move_leaves_others_alone();
 }
 
-/// Readying a thread and taking it from the ready ones, a suspension that is held, and the mark of a
-/// thread that was never started.
+/// Readying a thread and taking it from the ready ones, a suspension that is held, the mark of a
+/// thread that was never started, and its end.
 pub fn a_change_of_state_keeps_sound()
     ensures ready { ReadyKeepsSound }
     ensures unready { UnreadyKeepsSound }
     ensures held { HeldKeepsSound }
     ensures fresh { FreshKeepsSound }
+    ensures ending { EndKeepsSound }
 {
+    a_call_changes_its_own_alone();
+    calls_keep_the_table();
+    calls_keep_the_wheel();
+    each_has_a_tick_left();
     a_kernel_stays_sound();
     a_move_leaves_others_alone();
 }
@@ -72,6 +77,7 @@ pub fn a_wait_keeps_sound()
     ensures begins { BeginKeepsSound }
     ensures ends { WaitEndKeepsSound }
 {
+    each_has_a_tick_left();
     a_kernel_stays_sound();
     a_move_leaves_others_alone();
     a_call_changes_its_own_alone();
@@ -86,6 +92,8 @@ pub fn a_tick_keeps_serving()
     a_wait_keeps_sound();
     a_kernel_stays_sound();
     a_move_leaves_others_alone();
+    a_call_changes_its_own_alone();
+    calls_keep_the_table();
     calls_keep_the_wheel();
     an_arming_is_over_once();
     each_has_a_tick_left();
@@ -112,6 +120,11 @@ pub fn a_change_of_state_keeps_serving()
     ensures ending { EndKeepsServing }
     ensures reset { ResetKeepsServing }
 {
+    a_change_of_state_keeps_sound();
+    a_call_changes_its_own_alone();
+    calls_keep_the_table();
+    calls_keep_the_wheel();
+    each_has_a_tick_left();
     a_kernel_stays_sound();
     a_move_leaves_others_alone();
 }

@@ -2,7 +2,7 @@
 //!
 //! Whatever ends a wait comes through one function, which takes the same steps in the same order
 //! each time. Who waits where is kept by the table of waits, and when time is up by the wheel.
-ghost use Rattle.std.specs.Prelude.{◌≡◌, ◌≢◌, ◌<◌, ◌*◌, true, false, length, IsSome, IfSome};
+ghost use Rattle.std.specs.Prelude.{◌≡◌, ◌≢◌, ◌↔◌, ◌<◌, ◌*◌, true, false, length, IsSome, IfSome, Some};
 ghost use Rattle.region_guard.specs.Memory.{may};
 ghost use Rattle.ready_maps.specs.Sched.{is_ready};
 ghost use Rattle.soft_timers.specs.Timers.{IsRunning, disarmed};
@@ -62,7 +62,7 @@ fn is_timed(asks: &Asks, ticks: u32) -> bool
 
 /// Where the result goes of a wait that ends so.
 fn result_of(wait: &Wait, e: End) -> Option<u32>
-    ensures { result ≡ result_of wait.now e }
+    ensures { result ≡ result_of (Some wait.now) e }
 {
     match e {
         End::Satisfied => wanted_at(&wait.asks),
@@ -72,7 +72,7 @@ fn result_of(wait: &Wait, e: End) -> Option<u32>
 
 /// What the call answers whose wait ends so; who is gone gets no answer.
 fn answer_of(wait: &Wait, e: End) -> Option<Code>
-    ensures { result ≡ answer_of wait.now e }
+    ensures { result ≡ answer_of (Some wait.now) e }
 {
     match e {
         End::Satisfied => Some(Code::SUCCESS),
@@ -93,7 +93,19 @@ fn put_result(g: &mut Guard, m: ModNo, to: Option<u32>, value: &Message)
     }
 }
 
+/// How many waits, armings and ticks there may have been before one more.
+const COUNT_LIMIT: u64 = (1 << 63) - 1024;
+
 impl Kernel {
+    /// Whether there is room for more waits, armings and ticks. There always is: no board runs so long.
+    pub fn has_room(&self) -> bool
+        ensures { (result ≡ true) ↔ HasRoom self.now }
+    {
+        self.waits.totals().begun <= COUNT_LIMIT
+            && self.wheel.armings() <= COUNT_LIMIT
+            && self.wheel.ticks() <= COUNT_LIMIT
+    }
+
     /// The running thread begins to wait, last at the place of its wait, and its timeout is armed: that
     /// of a sleep for every number of ticks, any other but for 0xFFFFFFFF.
     pub fn begin_wait(&mut self, t: ThreadNo, w: Wait, ticks: u32)

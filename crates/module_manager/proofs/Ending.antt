@@ -8,14 +8,17 @@ use Rattle.object_grants.specs.Table.{slot}
 use Rattle.object_grants.specs.declared.slot.Slot.{Slot}
 use Rattle.ready_maps.specs.Sched.{Sched}
 use Rattle.region_guard.specs.Memory.{Memory}
+use Rattle.soft_timers.specs.Timers.{IsRunning, TimerTable}
+use Rattle.suspend_lists.specs.Waits.{WaitTable}
 use Rattle.kernel_state.specs.Change.{Change, quiet}
 use Rattle.kernel_state.specs.Kernel.{thread, has_thread, is_thread, module_of}
-use Rattle.kernel_state.specs.Laws.{with_both}
+use Rattle.kernel_state.specs.Laws.{with_all}
 use Rattle.kernel_state.specs.Sound.{IsSound}
 use Rattle.kernel_state.specs.Serves.{Serves}
 use Rattle.kernel_state.specs.Thread.{blank_thread, is_over}
 use Rattle.kernel_state.specs.ThreadChanges.{ended}
-use Rattle.kernel_state.specs.ThreadLaws.{EndKeepsServing}
+use Rattle.kernel_state.specs.ThreadLaws.{EndKeepsServing, EndKeepsSound}
+use Rattle.kernel_state.specs.WaitLaws.{EndChangesOne, EndKeepsMemory, with_waits}
 use Rattle.kernel_state.specs.declared.kernel.Kernel.{Kernel}
 use Rattle.kernel_state.specs.declared.thread.Thread.{Thread}
 use Rattle.module_manager.specs.Halt.{ending, threads_ended}
@@ -30,45 +33,60 @@ below_256 k t sound live = ⊎_elim (λ below. below) (λ past.
 abbrev terminated : Kernel → ℕ → Thread
 terminated k t = record (thread k t) { state = Terminated; held = false }
 
--- a thread isn't the module's, or is over already; or it goes on, and is terminated, whatever the scheduler becomes
-pub by_ending : (m : ℕ) (k : Kernel) (g : Memory) (t : ℕ) (P : Kernel → Type 0)
+-- the laws of the layer below on the end of a thread
+pub record Ends : Type 0 where
+  pub sound : EndKeepsSound
+  pub serving : EndKeepsServing
+  pub one : EndChangesOne
+  pub memory : EndKeepsMemory
+
+-- a thread isn't the module's, or is over already; or it goes on, and is terminated; whatever the scheduler and the waits become
+pub by_ending : Ends → (m : ℕ) (k : Kernel) (g : Memory) (t : ℕ) (P : Kernel → Type 0)
     → ((is_thread k t && (module_of k t == m)) ≡ false → P k)
-    → (is_thread k t ≡ true → module_of k t ≡ m → is_over (thread k t).state ≡ true → P k)
-    → (is_thread k t ≡ true → module_of k t ≡ m → (s : Sched) → P (with_both k t (terminated k t) s))
+    → (is_thread k t ≡ true → module_of k t ≡ m → is_over (thread k t).state ≡ true → (w : WaitTable) (h : TimerTable) → P (with_waits k w h))
+    → (is_thread k t ≡ true → module_of k t ≡ m → (s : Sched) (w : WaitTable) (h : TimerTable) → P (with_all k t (terminated k t) s w h))
     → P (ending m k g t).kernel
-by_ending m k g t P other over goes_on =
+by_ending ends m k g t P other over goes_on =
     cond_both (is_thread k t && (module_of k t == m)) (ended k g t Terminated) (quiet k g) (λ (c : Change). P c.kernel)
     (λ own. let parts = and_parts (is_thread k t) (module_of k t == m) own in
     let of_m = eqb-true (module_of k t) m parts.1 in
-    cond_both (is_over (thread k t).state) k _ P (over parts.0 of_m) (λ _. goes_on parts.0 of_m _))
+    let now = (ended k g t Terminated).kernel in
+    subst P (sym (ends.one k g t Terminated))
+    (cond_both (is_over (thread k t).state) k _ (λ (j : Kernel). P (with_waits j now.waits now.wheel))
+    (λ is. over parts.0 of_m is now.waits now.wheel) (λ _. goes_on parts.0 of_m _ now.waits now.wheel)))
     other
 
 -- no slot and no other thread changes
-pub ending-objects : (m : ℕ) (k : Kernel) (g : Memory) (t : ℕ) → (ending m k g t).kernel.objects ≡ k.objects
-ending-objects m k g t = by_ending m k g t (λ j. j.objects ≡ k.objects) (λ _. refl) (λ _ _ _. refl) (λ _ _ _. refl)
+pub ending-objects : Ends → (m : ℕ) (k : Kernel) (g : Memory) (t : ℕ) → (ending m k g t).kernel.objects ≡ k.objects
+ending-objects ends m k g t = by_ending ends m k g t (λ j. j.objects ≡ k.objects) (λ _. refl) (λ _ _ _ _ _. refl) (λ _ _ _ _ _. refl)
 
-pub ending-other : (m : ℕ) (k : Kernel) (g : Memory) (t u : ℕ) → u ≢ t → thread (ending m k g t).kernel u ≡ thread k u
-ending-other m k g t u other =
-    by_ending m k g t (λ j. thread j u ≡ thread k u) (λ _. refl) (λ _ _ _. refl)
-    (λ _ _ _. get_or-set_other k.threads t u (terminated k t) blank_thread other)
+pub ending-other : Ends → (m : ℕ) (k : Kernel) (g : Memory) (t u : ℕ) → u ≢ t → thread (ending m k g t).kernel u ≡ thread k u
+ending-other ends m k g t u other =
+    by_ending ends m k g t (λ j. thread j u ≡ thread k u) (λ _. refl) (λ _ _ _ _ _. refl)
+    (λ _ _ _ _ _. get_or-set_other k.threads t u (terminated k t) blank_thread other)
 
 -- a thread of the module is over then
-pub ending-over : (m : ℕ) (k : Kernel) (g : Memory) (t : ℕ) → IsSound k → is_thread k t ≡ true → module_of k t ≡ m → is_over (thread (ending m k g t).kernel t).state ≡ true
-ending-over m k g t sound live own =
+pub ending-over : Ends → (m : ℕ) (k : Kernel) (g : Memory) (t : ℕ) → IsSound k → is_thread k t ≡ true → module_of k t ≡ m → is_over (thread (ending m k g t).kernel t).state ≡ true
+ending-over ends m k g t sound live own =
     let below = below_256 k t sound live in
-    by_ending m k g t (λ j. is_over (thread j t).state ≡ true)
+    by_ending ends m k g t (λ j. is_over (thread j t).state ≡ true)
     (λ none. absurd (false≢true (sym none ∙ and_from (is_thread k t) (module_of k t == m) live (eq-eqb (module_of k t) m own))))
-    (λ _ _ over. over)
-    (λ _ _ _. ap (λ (x : Thread). is_over x.state) (get_or-set_same k.threads t (terminated k t) blank_thread (omega (arith, sound.formed.threads))))
+    (λ _ _ over _ _. over)
+    (λ _ _ _ _ _. ap (λ (x : Thread). is_over x.state) (get_or-set_same k.threads t (terminated k t) blank_thread (omega (arith, sound.formed.threads))))
 
 -- every thread keeps its module
-pub ending-module : (m : ℕ) (k : Kernel) (g : Memory) (t u : ℕ) → IsSound k → module_of (ending m k g t).kernel u ≡ module_of k u
-ending-module m k g t u sound =
+pub ending-module : Ends → (m : ℕ) (k : Kernel) (g : Memory) (t u : ℕ) → IsSound k → module_of (ending m k g t).kernel u ≡ module_of k u
+ending-module ends m k g t u sound =
     ⊎_elim (λ (same : u ≡ t). subst (λ n. module_of (ending m k g t).kernel n ≡ module_of k n) (sym same)
-    (by_ending m k g t (λ j. module_of j t ≡ module_of k t) (λ _. refl) (λ _ _ _. refl)
-    (λ live _ _. let below = below_256 k t sound live in
+    (by_ending ends m k g t (λ j. module_of j t ≡ module_of k t) (λ _. refl) (λ _ _ _ _ _. refl)
+    (λ live _ _ _ _. let below = below_256 k t sound live in
     ap (λ (x : Thread). x.module) (get_or-set_same k.threads t (terminated k t) blank_thread (omega (arith, sound.formed.threads))))))
-    (λ (other : u ≢ t). ap (λ (x : Thread). x.module) (ending-other m k g t u other)) (cases_eq u t)
+    (λ (other : u ≢ t). ap (λ (x : Thread). x.module) (ending-other ends m k g t u other)) (cases_eq u t)
+
+ending-sound : EndKeepsSound → (m : ℕ) (k : Kernel) (g : Memory) (t : ℕ) → IsSound k → IsSound (ending m k g t).kernel
+ending-sound ends m k g t sound =
+    cond_both (is_thread k t && (module_of k t == m)) (ended k g t Terminated) (quiet k g) (λ (c : Change). IsSound c.kernel)
+    (λ own. ends k g t Terminated sound (and_parts (is_thread k t) (module_of k t == m) own).0 (inr refl)) (λ _. sound)
 
 pub ending-serves : EndKeepsServing → (m : ℕ) (k : Kernel) (g : Memory) (t : ℕ) → Serves k g → Serves (ending m k g t).kernel (ending m k g t).memory
 ending-serves ends m k g t serves =
@@ -76,12 +94,12 @@ ending-serves ends m k g t serves =
     (λ own. ends k g t Terminated serves (and_parts (is_thread k t) (module_of k t == m) own).0 (inr refl)) (λ _. serves)
 
 -- no byte changes
-pub ending-memory : (m : ℕ) (k : Kernel) (g : Memory) (t : ℕ) → (ending m k g t).memory ≡ g
-ending-memory m k g t =
-    cond_both (is_thread k t && (module_of k t == m)) (ended k g t Terminated) (quiet k g) (λ (c : Change). c.memory ≡ g) (λ _. refl) (λ _. refl)
+pub ending-memory : Ends → (m : ℕ) (k : Kernel) (g : Memory) (t : ℕ) → (ending m k g t).memory ≡ g
+ending-memory ends m k g t =
+    cond_both (is_thread k t && (module_of k t == m)) (ended k g t Terminated) (quiet k g) (λ (c : Change). c.memory ≡ g) (λ _. ends.memory k g t Terminated) (λ _. refl)
 
-pub threads_ended-memory : (k : Kernel) (g : Memory) (m : ℕ) → (threads_ended k g m).memory ≡ g
-threads_ended-memory k g m = for_each_slot_memory (ending m) (ending-memory m) k g
+pub threads_ended-memory : Ends → (k : Kernel) (g : Memory) (m : ℕ) → (threads_ended k g m).memory ≡ g
+threads_ended-memory ends k g m = for_each_slot_memory (ending m) (ending-memory ends m) k g
 
 -- no thread of the module goes on
 abbrev pub AreOver : Kernel → ℕ → Type 0
@@ -91,18 +109,26 @@ AreOver k m = (t : ℕ) → is_thread k t ≡ true → module_of k t ≡ m → i
 abbrev AreOverBelow : ℕ → ℕ → Kernel → Type 0
 AreOverBelow m n k = (t : ℕ) → t < n → is_thread k t ≡ true → module_of k t ≡ m → is_over (thread k t).state ≡ true
 
-one_more_over : (m n : ℕ) (k : Kernel) (g : Memory) → IsSound k → AreOverBelow m n k → AreOverBelow m (suc n) (ending m k g n).kernel
-one_more_over m n k g sound below_n t below live own =
-    let was_live : is_thread k t ≡ true = subst (λ (slots : List Slot). has_thread (slot slots t) ≡ true) (ending-objects m k g n) live in
-    let was_own : module_of k t ≡ m = sym (ending-module m k g n t sound) ∙ own in
+one_more_over : Ends → (m n : ℕ) (k : Kernel) (g : Memory) → IsSound k → AreOverBelow m n k → AreOverBelow m (suc n) (ending m k g n).kernel
+one_more_over ends m n k g sound below_n t below live own =
+    let was_live : is_thread k t ≡ true = subst (λ (slots : List Slot). has_thread (slot slots t) ≡ true) (ending-objects ends m k g n) live in
+    let was_own : module_of k t ≡ m = sym (ending-module ends m k g n t sound) ∙ own in
     ⊎_elim (λ (same : t ≡ n). subst (λ j. is_over (thread (ending m k g n).kernel j).state ≡ true) (sym same)
-    (ending-over m k g n sound (subst (λ j. is_thread k j ≡ true) same was_live) (subst (λ j. module_of k j ≡ m) same was_own)))
-    (λ (other : t ≢ n). subst (λ (x : Thread). is_over x.state ≡ true) (sym (ending-other m k g n t other)) (below_n t (omega arith) was_live was_own))
+    (ending-over ends m k g n sound (subst (λ j. is_thread k j ≡ true) same was_live) (subst (λ j. module_of k j ≡ m) same was_own)))
+    (λ (other : t ≢ n). subst (λ (x : Thread). is_over x.state ≡ true) (sym (ending-other ends m k g n t other)) (below_n t (omega arith) was_live was_own))
     (cases_eq t n)
 
-pub threads_ended-sound-over : EndKeepsServing → (m : ℕ) (k : Kernel) (g : Memory) → IsSound k → IsSound (threads_ended k g m).kernel × AreOver (threads_ended k g m).kernel m
+pub threads_ended-sound-over : Ends → (m : ℕ) (k : Kernel) (g : Memory) → IsSound k → IsSound (threads_ended k g m).kernel × AreOver (threads_ended k g m).kernel m
 threads_ended-sound-over ends m k g sound =
     let now = (threads_ended k g m).kernel in
     let all = for_each_slot_keeps (λ n j. IsSound j × AreOverBelow m n j) (ending m)
-    (λ n j h below kept. ((ending-serves ends m j h n (record { sound = kept.0 })).sound, one_more_over m n j h kept.0 kept.1)) k g (sound, λ t below. absurd (omega arith)) in
+    (λ n j h below kept. (ending-sound ends.sound m j h n kept.0, one_more_over ends m n j h kept.0 kept.1)) k g (sound, λ t below. absurd (omega arith)) in
     (all.0, λ t live own. all.1 t (below_256 now t all.0 live) live own)
+
+-- each timeout that is armed has a tick left afterwards
+pub threads_ended-running : EndKeepsServing → (m : ℕ) (k : Kernel) (g : Memory) → Serves k g → IsRunning (threads_ended k g m).kernel.wheel
+threads_ended-running ends m k g serves =
+    let all = for_each_slot_keeps (λ n j. IsSound j × IsRunning j.wheel) (ending m)
+    (λ n j h below kept.
+    let after = ending-serves ends m j h n (record { sound = kept.0; running = kept.1 }) in (after.sound, after.running)) k g (serves.sound, serves.running) in
+    all.1

@@ -4,24 +4,24 @@ use Rattle.std.proofs.lemmas.Bool.{cases_eq, false≢true, false_from_ne_true}
 use Rattle.object_grants.specs.Slot.{owns, without_grant}
 use Rattle.object_grants.specs.Table.{slot}
 use Rattle.region_guard.specs.Memory.{Memory}
+use Rattle.soft_timers.specs.Timers.{IsRunning}
 use Rattle.kernel_state.specs.Kernel.{thread, has_thread, is_thread, module_of, spot}
 use Rattle.kernel_state.specs.Laws.{OneSlotChanges, OneThreadIsRemoved}
 use Rattle.kernel_state.specs.Serves.{Serves}
 use Rattle.kernel_state.specs.Sound.{IsSound}
 use Rattle.kernel_state.specs.Thread.{is_over}
-use Rattle.kernel_state.specs.ThreadLaws.{EndKeepsServing}
 use Rattle.kernel_state.specs.declared.kernel.Kernel.{Kernel}
 use Rattle.kernel_state.specs.declared.thread.Thread.{Thread}
-use Rattle.module_manager.specs.Halt.{clearing, ending, halted, slots_cleared, threads_ended}
+use Rattle.module_manager.specs.Halt.{clearing, ending, halted, slots_cleared, threads_ended, ties_ended, ungranting}
 use Rattle.module_manager.specs.Laws.{HaltEndsCallback, HaltEndsGrants, HaltEndsSlots, HaltKeepsMemory, HaltKeepsServing, HaltLeavesThreads, HaltSparesSlots, HaltSparesThreads}
 use Rattle.module_manager.proofs.Clearing.{slots_cleared-memory, slots_cleared-sound-free, by_clearing, clearing-other, clearing-thread, owner-thread, owner_is, owns-thread}
-use Rattle.module_manager.proofs.Ending.{threads_ended-memory, threads_ended-sound-over, below_256, by_ending, ending-objects, ending-other}
+use Rattle.module_manager.proofs.Ending.{Ends, threads_ended-memory, threads_ended-running, threads_ended-sound-over, below_256, by_ending, ending-objects, ending-other}
 use Rattle.module_manager.proofs.Folds.{for_each_slot_keeps}
 use Rattle.module_manager.proofs.Ungranting.{ties_ended-grants, ties_ended-is, ties_ended-memory, ties_ended-owns, ties_ended-thread, without_grant-thread}
 
 -- the laws of the layer below
 pub record Lower : Type 0 where
-  pub ends : EndKeepsServing
+  pub ends : Ends
   pub changes : OneSlotChanges
   pub removes : OneThreadIsRemoved
 
@@ -39,20 +39,20 @@ abbrev memory_3 : Kernel → Memory → ℕ → Memory
 memory_3 k g m = (slots_cleared (kernel_1 k g m) (memory_1 k g m) m).memory
 
 -- the threads' end leaves every slot, and each thread of another module
-threads_ended-objects : (m : ℕ) (k : Kernel) (g : Memory) → (threads_ended k g m).kernel.objects ≡ k.objects
-threads_ended-objects m k g =
-    for_each_slot_keeps (λ n j. j.objects ≡ k.objects) (ending m) (λ n j h below same. ending-objects m j h n ∙ same) k g refl
+threads_ended-objects : Ends → (m : ℕ) (k : Kernel) (g : Memory) → (threads_ended k g m).kernel.objects ≡ k.objects
+threads_ended-objects ends m k g =
+    for_each_slot_keeps (λ n j. j.objects ≡ k.objects) (ending m) (λ n j h below same. ending-objects ends m j h n ∙ same) k g refl
 
-one-ending-spares : (m : ℕ) (k j : Kernel) (h : Memory) (t n : ℕ) → module_of k t ≢ m → thread j t ≡ thread k t → thread (ending m j h n).kernel t ≡ thread k t
-one-ending-spares m k j h t n other_module same =
+one-ending-spares : Ends → (m : ℕ) (k j : Kernel) (h : Memory) (t n : ℕ) → module_of k t ≢ m → thread j t ≡ thread k t → thread (ending m j h n).kernel t ≡ thread k t
+one-ending-spares ends m k j h t n other_module same =
     ⊎_elim (λ (here : t ≡ n). subst (λ i. thread (ending m j h i).kernel t ≡ thread k t) here
-    (by_ending m j h t (λ i. thread i t ≡ thread k t) (λ _. same) (λ _ _ _. same)
-    (λ _ own _. absurd (other_module (sym (ap (λ (x : Thread). x.module) same) ∙ own)))))
-    (λ (other : t ≢ n). ending-other m j h n t other ∙ same) (cases_eq t n)
+    (by_ending ends m j h t (λ i. thread i t ≡ thread k t) (λ _. same) (λ _ _ _ _ _. same)
+    (λ _ own _ _ _. absurd (other_module (sym (ap (λ (x : Thread). x.module) same) ∙ own)))))
+    (λ (other : t ≢ n). ending-other ends m j h n t other ∙ same) (cases_eq t n)
 
-threads_ended-spares : (m : ℕ) (k : Kernel) (g : Memory) (t : ℕ) → module_of k t ≢ m → thread (threads_ended k g m).kernel t ≡ thread k t
-threads_ended-spares m k g t other_module =
-    for_each_slot_keeps (λ n j. thread j t ≡ thread k t) (ending m) (λ n j h below same. one-ending-spares m k j h t n other_module same) k g refl
+threads_ended-spares : Ends → (m : ℕ) (k : Kernel) (g : Memory) (t : ℕ) → module_of k t ≢ m → thread (threads_ended k g m).kernel t ≡ thread k t
+threads_ended-spares ends m k g t other_module =
+    for_each_slot_keeps (λ n j. thread j t ≡ thread k t) (ending m) (λ n j h below same. one-ending-spares ends m k j h t n other_module same) k g refl
 
 -- the slots' end leaves every thread's entry, and each slot that isn't the module's
 slots_cleared-thread : (m : ℕ) (k : Kernel) (g : Memory) (t : ℕ) → thread (slots_cleared k g m).kernel t ≡ thread k t
@@ -71,6 +71,15 @@ slots_cleared-spares : (m : ℕ) (k : Kernel) (g : Memory) (o : ℕ) → owns m 
 slots_cleared-spares m k g o others =
     for_each_slot_keeps (λ n j. slot j.objects o ≡ slot k.objects o) (clearing m) (λ n j h below same. one-clearing-spares m k j h o n others same) k g refl
 
+-- and no timeout
+slots_cleared-wheel : (m : ℕ) (k : Kernel) (g : Memory) → (slots_cleared k g m).kernel.wheel ≡ k.wheel
+slots_cleared-wheel m k g =
+    for_each_slot_keeps (λ n j. j.wheel ≡ k.wheel) (clearing m)
+    (λ n j h below same. by_clearing m j h n (λ i. i.wheel ≡ k.wheel) (λ _. same) (λ _ _. same) (λ _ _. same)) k g refl
+
+ties_ended-wheel : (k : Kernel) (g : Memory) (m : ℕ) → (ties_ended k g m).kernel.wheel ≡ k.wheel
+ties_ended-wheel k g m = for_each_slot_keeps (λ n j. j.wheel ≡ k.wheel) (ungranting m) (λ n j h below same. same) k g refl
+
 -- a halt up to its last step
 before_last : Lower → (m : ℕ) (k : Kernel) (g : Memory) → IsSound k
     → IsSound (kernel_3 k g m) × ((o : ℕ) → owns m (slot (kernel_3 k g m).objects o) ≡ false)
@@ -82,16 +91,20 @@ halt-sound : Lower → (k : Kernel) (g : Memory) (m : ℕ) → IsSound k → IsS
 halt-sound lower k g m sound = (ties_ended-is lower.changes m (kernel_3 k g m) (memory_3 k g m) (before_last lower m k g sound).0).0
 
 pub halt_keeps_serving : Lower → HaltKeepsServing
-halt_keeps_serving lower k g m serves = record { sound = halt-sound lower k g m serves.sound }
+halt_keeps_serving lower k g m serves = record {
+  sound = halt-sound lower k g m serves.sound;
+  running = subst IsRunning (sym (ties_ended-wheel (kernel_3 k g m) (memory_3 k g m) m ∙ slots_cleared-wheel m (kernel_1 k g m) (memory_1 k g m)))
+      (threads_ended-running lower.ends.serving m k g serves);
+}
 
-pub halt_keeps_memory : HaltKeepsMemory
-halt_keeps_memory k g m =
-    ties_ended-memory (kernel_3 k g m) (memory_3 k g m) m ∙ (slots_cleared-memory (kernel_1 k g m) (memory_1 k g m) m ∙ threads_ended-memory k g m)
+pub halt_keeps_memory : Lower → HaltKeepsMemory
+halt_keeps_memory lower k g m =
+    ties_ended-memory (kernel_3 k g m) (memory_3 k g m) m ∙ (slots_cleared-memory (kernel_1 k g m) (memory_1 k g m) m ∙ threads_ended-memory lower.ends k g m)
 
 pub halt_spares_slots : Lower → HaltSparesSlots
 halt_spares_slots lower k g m o sound below others =
     let last = before_last lower m k g sound in
-    let stays : slot (kernel_1 k g m).objects o ≡ slot k.objects o = ap (λ slots. slot slots o) (threads_ended-objects m k g) in
+    let stays : slot (kernel_1 k g m).objects o ≡ slot k.objects o = ap (λ slots. slot slots o) (threads_ended-objects lower.ends m k g) in
     (ties_ended-is lower.changes m (kernel_3 k g m) (memory_3 k g m) last.0).1 o below
     ∙ ap (without_grant m) (slots_cleared-spares m (kernel_1 k g m) (memory_1 k g m) o (ap (owns m) stays ∙ others) ∙ stays)
 
@@ -100,7 +113,7 @@ halt_leaves_threads lower k g m t sound live other_module =
     let others = false_from_ne_true (owns m (slot k.objects t)) (λ own. other_module (owner-thread k t sound live ∙ owner_is m (slot k.objects t) own)) in (
       ap has_thread (halt_spares_slots lower k g m t sound (below_256 k t sound live) others) ∙ (without_grant-thread m (slot k.objects t) ∙ live),
       ties_ended-thread m (kernel_3 k g m) (memory_3 k g m) t
-          ∙ (slots_cleared-thread m (kernel_1 k g m) (memory_1 k g m) t ∙ threads_ended-spares m k g t other_module),
+          ∙ (slots_cleared-thread m (kernel_1 k g m) (memory_1 k g m) t ∙ threads_ended-spares lower.ends m k g t other_module),
     )
 
 pub halt_spares_threads : Lower → HaltSparesThreads

@@ -6,7 +6,7 @@ ghost use Rattle.std.specs.Prelude.{◌≡◌};
 ghost use Rattle.kernel_state.specs.Serves.{Serves};
 ghost use Rattle.module_manager.specs.Halt.{clearing, ending, halted, removed_by_kind, slots_cleared, threads_ended, ties_ended, ungranting};
 
-use kernel_state::laws::{a_change_of_state_keeps_serving, a_kernel_stays_sound};
+use crate::laws::{a_halt_ends_its_module, a_halt_spares_other_modules};
 use kernel_state::{Kernel, end_thread};
 use object_grants::SLOTS;
 use region_guard::Guard;
@@ -20,8 +20,8 @@ pub(crate) fn halt(k: &mut Kernel, g: &mut Guard, m: ModNo)
     ensures same { g.new ≡ g.old }
     ensures serves { Serves k.new g.new }
 {
-    a_kernel_stays_sound();
-    a_change_of_state_keeps_serving();
+    a_halt_spares_other_modules();
+    a_halt_ends_its_module();
     end_threads(k, g, m);
     clear_slots(k, g, m);
     end_ties(k, g, m);

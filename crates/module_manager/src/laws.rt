@@ -3,7 +3,10 @@
 //! Their bodies do nothing; a function calls one where its proof needs the law.
 ghost use Rattle.module_manager.specs.Laws.{BeginningKeepsMemory, HaltEndsCallback, HaltEndsGrants, HaltEndsSlots, HaltKeepsMemory, HaltKeepsServing, HaltLeavesThreads, HaltSparesSlots, HaltSparesThreads, StartKeepsRegions, StartWritesItsData};
 
-use kernel_state::laws::{a_change_of_state_keeps_serving, a_kernel_stays_sound};
+use kernel_state::laws::{
+    a_change_of_state_keeps_serving, a_change_of_state_keeps_sound, a_kernel_stays_sound,
+    an_end_changes_its_thread_alone,
+};
 use region_guard::{a_write_changes_its_bytes_alone, what_may_be_used_is_in_ram};
 
 /// A halt completes or terminates no thread of another module, and changes no byte; of each slot that
@@ -16,7 +19,9 @@ pub fn a_halt_spares_other_modules()
     ensures as_they_were { HaltLeavesThreads }
 {
     a_kernel_stays_sound();
+    a_change_of_state_keeps_sound();
     a_change_of_state_keeps_serving();
+    an_end_changes_its_thread_alone();
 }
 
 /// After a halt its module owns no slot, is granted none, and has no callback thread, and the kernel
@@ -28,7 +33,9 @@ pub fn a_halt_ends_its_module()
     ensures serves { HaltKeepsServing }
 {
     a_kernel_stays_sound();
+    a_change_of_state_keeps_sound();
     a_change_of_state_keeps_serving();
+    an_end_changes_its_thread_alone();
 }
 
 /// A start changes no region, and no byte outside of its module's data region, which it zeroes; making

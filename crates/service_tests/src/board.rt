@@ -4,13 +4,11 @@
 //! can't give is left out, and the step that makes it fails.
 ghost use Rattle.std.specs.Prelude.{◌≡◌, IfOk};
 ghost use Rattle.kernel_state.specs.Serves.{Serves};
-ghost use Rattle.kernel_state.specs.Sound.{IsSound};
+ghost use Rattle.kernel_state.specs.Sound.{IsSound, IsWait};
 
 use call_dispatch::dispatch;
 use flat_ram::Ram;
-use kernel_state::laws::{
-    a_change_of_state_keeps_sound, a_kernel_stays_sound, who_runs_is_a_thread,
-};
+use kernel_state::laws::{a_kernel_stays_sound, who_runs_is_a_thread};
 use kernel_state::{Kernel, Spot, ThreadSpec, start_thread};
 use module_loader::{Placed, want_of};
 use module_manager::Manager;
@@ -21,8 +19,9 @@ use rv_core::{Cause, Hart};
 use std::alloc::Global;
 use std::marker::Model;
 use std::test::Fail;
+use suspend_lists::{Asks, On, Wait};
 use thread_calls::laws::a_change_of_slots_keeps_sound;
-use tx_types::{Kind, ModNo, Name, ObjNo, Prio, State, ThreadNo, Thresh};
+use tx_types::{Code, Kind, ModNo, Name, ObjNo, Prio, ThreadNo, Thresh};
 
 /// Modules, a kernel and its memory.
 #[derive(Drop)]
@@ -94,7 +93,7 @@ impl Board {
 
     /// The running thread begins to sleep.
     pub fn sleep(&mut self) -> bool {
-        sleep(&mut self.k)
+        sleep(&mut self.k, &self.g)
     }
 
     /// The running thread writes a register.
@@ -224,17 +223,33 @@ fn ask(k: &mut Kernel, t: ThreadNo, service: u32, a: [u32; 3])
     *k.hart_mut(t) = hart;
 }
 
-fn sleep(k: &mut Kernel) -> bool
-    requires { IsSound k.old }
-    ensures { IsSound k.new }
+/// The running thread begins to sleep; no tick ends it.
+fn sleep(k: &mut Kernel, g: &Guard) -> bool
+    requires { Serves k.old g.now }
+    ensures { Serves k.new g.now }
 {
-    a_change_of_state_keeps_sound();
     who_runs_is_a_thread();
-    if let Some(t) = k.running() {
-        k.make_unready(t, State::Sleep);
-        true
-    } else {
-        false
+    let _ = g;
+    let Some(t) = k.running() else {
+        return false;
+    };
+    let may = k.has_room();
+    if may {
+        let asked = k.effective_priority(t);
+        k.begin_wait(t, asleep(asked), 1);
+    }
+    may
+}
+
+/// A sleep.
+fn asleep(asked: Prio) -> Wait
+    ensures { IsWait result }
+{
+    Wait {
+        on: On::Sleep,
+        asks: Asks::Sleep,
+        code: Code::SUCCESS,
+        asked,
     }
 }
 

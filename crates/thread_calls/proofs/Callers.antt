@@ -18,6 +18,7 @@ use Rattle.kernel_state.specs.Outcome.{refused}
 use Rattle.kernel_state.specs.Tests.{reserved}
 use Rattle.kernel_state.specs.Thread.{blank_thread, is_over, is_state, is_waiting}
 use Rattle.kernel_state.specs.ThreadChanges.{started, suspended, ended, reset, with_fresh}
+use Rattle.kernel_state.specs.WaitLaws.{EndChangesOne, with_waits}
 use Rattle.kernel_state.specs.declared.kernel.Kernel.{Kernel}
 use Rattle.kernel_state.specs.declared.thread.Thread.{Thread}
 use Rattle.thread_calls.specs.Create.{created, spec_of}
@@ -49,11 +50,13 @@ suspended_kept k g by t =
     (λ waits. hart_kept k by t (record (thread k t) { held = true }) refl)
     (λ rests. refl))
 
-pub ended_kept : (k : Kernel) (g : Memory) (by t : ℕ) (state : State) → (thread (ended k g t state).kernel by).hart ≡ (thread k by).hart
-ended_kept k g by t state =
-    cond_both (is_over (thread k t).state) k _ (λ (j : Kernel). (thread j by).hart ≡ (thread k by).hart)
+pub ended_kept : EndChangesOne → (k : Kernel) (g : Memory) (by t : ℕ) (state : State) → (thread (ended k g t state).kernel by).hart ≡ (thread k by).hart
+ended_kept one k g by t state =
+    let now = (ended k g t state).kernel in
+    subst (λ (j : Kernel). (thread j by).hart ≡ (thread k by).hart) (sym (one k g t state))
+    (cond_both (is_over (thread k t).state) k _ (λ (j : Kernel). (thread (with_waits j now.waits now.wheel) by).hart ≡ (thread k by).hart)
     (λ over. refl)
-    (λ runs. hart_kept k by t (record (thread k t) { state = state; held = false }) refl)
+    (λ runs. hart_kept k by t (record (thread k t) { state = state; held = false }) refl))
 
 -- what a refusal by a test lets pass
 passed : (b : Bool) (c : ℕ) → refused b c ≡ None → b ≡ false

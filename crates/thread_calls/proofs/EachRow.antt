@@ -22,6 +22,7 @@ use Rattle.kernel_state.specs.Tests.{named, reserved, owner_refusal, caller_refu
 use Rattle.kernel_state.specs.Thread.{is_over, is_state}
 use Rattle.kernel_state.specs.ThreadChanges.{started, suspended, with_held, ended, reset}
 use Rattle.kernel_state.specs.declared.answer.Answer.TheVariants.{Code, Value, Ended}
+use Rattle.kernel_state.specs.WaitLaws.{EndChangesOne, EndKeepsMemory}
 use Rattle.thread_calls.specs.Create.{block_at, block_refusal, created}
 use Rattle.thread_calls.specs.Numbers.{with_user_threshold, with_user_priority, with_slice, thread_info}
 use Rattle.thread_calls.specs.ObjectRows.{allocation, granting, object_allocate_row, object_deallocate_row, object_pointer_get_row}
@@ -40,6 +41,8 @@ pub record Parts : Type 0 where
   pub found_kind : FoundIsKept Kind
   pub given_name : GivenIsKept (List ℕ)
   pub either : EitherIsKept
+  pub end_memory : EndKeepsMemory
+  pub end_one : EndChangesOne
 
 -- an answer that isn't a refusal
 success_is_no_refusal : IsNoRefusal (Code success)
@@ -109,7 +112,7 @@ module _ (parts : Parts) where
   unfolding thread_terminate_row
   thread_terminate_is_row k g by a =
       parts.found [] k g by thread_error (named k by (arg a 0) Thread) _ (λ t at.
-      parts.changed [] k g by (ended k g t Terminated) (end_answer by t) (end_is_no_refusal by t) refl (λ calls. ended_kept k g by t Terminated))
+      parts.changed [] k g by (ended k g t Terminated) (end_answer by t) (end_is_no_refusal by t) (parts.end_memory k g t Terminated) (λ calls. ended_kept parts.end_one k g by t Terminated))
 
   thread_suspend_is_row : IsRow (row 0x13 thread_suspend_row)
   unfolding thread_suspend_row
@@ -182,7 +185,7 @@ module _ (parts : Parts) where
 
   thread_complete_is_row : IsRow (row 0x1F thread_complete_row)
   unfolding thread_complete_row
-  thread_complete_is_row k g by a = parts.changed [] k g by (ended k g by Completed) Ended ended_is_no_refusal refl (λ calls. ended_kept k g by by Completed)
+  thread_complete_is_row k g by a = parts.changed [] k g by (ended k g by Completed) Ended ended_is_no_refusal (parts.end_memory k g by Completed) (λ calls. ended_kept parts.end_one k g by by Completed)
 
 -- what holds of each element, one after another
 abbrev EachOf : (Row → Type 0) → List Row → Type 0

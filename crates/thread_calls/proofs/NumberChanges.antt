@@ -50,6 +50,7 @@ threshold_keeps_sound lower sets k t new sound live at_most =
       threshold = at_most;
       slice = was.slice;
       held = was.held;
+      wait = was.wait;
     }) (λ _. record { priority = set.priority ∙ (settled.priority ∙ (sym effective.0 ∙ sym same.0)); threshold = set.threshold ∙ sym (same.1 refl) })
 
 pub priority_keeps_sound : Lower → PriorityChangesOne → PriorityKeepsSound
@@ -68,6 +69,7 @@ priority_keeps_sound lower sets k t new sound live level =
       threshold = omega arith;
       slice = was.slice;
       held = was.held;
+      wait = was.wait;
     }) (λ _. record { priority = set.priority ∙ sym same.0; threshold = set.threshold ∙ sym (same.1 refl) })
 
 pub slice_keeps_sound : Lower → SliceKeepsSound
@@ -87,7 +89,7 @@ slice_keeps_sound lower k t new sound live =
       others = alone;
       in_scheduler = refl;
       threshold_in_scheduler = refl;
-    }) was.ready (whole_slice new) was.held
+    }) was.ready (whole_slice new) was.held was.wait
 
 pub yield_keeps_sound : Lower → YieldChangesNone → YieldKeepsSound
 yield_keeps_sound lower yields k t sound live some =
@@ -101,5 +103,5 @@ yield_keeps_sound lower yields k t sound live some =
       others = yield.others;
       in_scheduler = yield.priority;
       threshold_in_scheduler = yield.threshold;
-    }) (yield.ready ∙ was.ready) was.slice was.held in
+    }) (yield.ready ∙ was.ready) was.slice was.held was.wait in
     subst (λ ts. IsSound (record k { threads = ts; ready = s })) (set-get_or k.threads t blank_thread) itself

@@ -6,7 +6,7 @@ ghost use Rattle.thread_calls.specs.Rows.{EachRowIsOne};
 
 use kernel_state::laws::{
     a_kernel_stays_sound, a_move_leaves_others_alone, a_row_is_made_of_parts,
-    an_effective_pair_fits, who_runs_is_a_thread,
+    an_effective_pair_fits, an_end_changes_its_thread_alone, who_runs_is_a_thread,
 };
 
 /// New numbers of a thread, and a yield.
@@ -37,4 +37,5 @@ pub fn each_row_is_one()
     ensures { EachRowIsOne }
 {
     a_row_is_made_of_parts();
+    an_end_changes_its_thread_alone();
 }

@@ -14,4 +14,6 @@ returns c =
       found_kind = parts.found_kind;
       given_name = parts.given_name;
       either = parts.either;
+      end_memory = c.an_end_changes_its_thread_alone.ensures.memory;
+      end_one = c.an_end_changes_its_thread_alone.ensures.kernel;
     })
