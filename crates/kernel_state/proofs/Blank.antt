@@ -27,9 +27,11 @@ spot_at m below = get_or-replicate 16 m blank_spot blank_spot below
 
 -- nobody waits
 none_waits : (t : ℕ) → wait_of new_table t ≡ None
-none_waits t = ap (option_map (λ p. p.wait)) (⊎_elim {C = pending new_table t ≡ None}
-    (λ below. get_or-replicate 256 t None None below)
-    (λ past. get_or_past new_table.waits t None (omega (arith, length-replicate {X = Option Pending} 256 None))) (cases_lt t 256))
+none_waits t =
+    let none : Option Pending = None in
+    ap (option_map (λ (p : Pending). p.wait)) (⊎_elim {C = pending new_table t ≡ None}
+    (λ below. get_or-replicate 256 t none none below)
+    (λ past. get_or_past new_table.waits t none (omega (arith, length-replicate 256 none))) (cases_lt t 256))
 
 pub blank_is_sound : IsKept (new_sched 32) → IsTable new_table → IsWheel no_timers → IsSound blank_kernel
 blank_is_sound kept table wheel = record {

@@ -1,6 +1,5 @@
 -- What the end of a wait, and that of a thread, leaves of waits and timeouts.
-use Rattle.std.proofs.Common.{◌≡◌, ◌≢◌, ℕ, ◌+◌, ◌<◌, ◌≤◌, Bool, true, false, cond, List, [], length, Option, None, Some, IsSome, refl, sym, ap, ◌∙◌, subst, ⊎_elim, arith}
-use Rattle.std.specs.List.{slice_index_or}
+use Rattle.std.proofs.Common.{◌≡◌, ◌≢◌, ℕ, ◌<◌, ◌≤◌, Bool, true, false, List, [], length, Option, None, Some, IsSome, refl, sym, ap, ◌∙◌, subst, ⊎_elim, arith}
 use Rattle.std.specs.Option.{option_map}
 use Rattle.std.proofs.lemmas.Bool.{cases_lt, cond_both, cond-true, cond-false, false≢true, true≢false}
 use Rattle.std.proofs.lemmas.List.{get_or-set_same, get_or-set_other, get_or_past}
@@ -9,7 +8,7 @@ use Rattle.tx_types.specs.declared.waits.End.{End}
 use Rattle.tx_types.specs.declared.waits.End.TheVariants.{Satisfied, TimedOut, Aborted, Deleted, Gone}
 use Rattle.tx_types.specs.declared.waits.Totals.{Totals}
 use Rattle.region_guard.specs.Memory.{Memory}
-use Rattle.soft_timers.specs.Laws.{Arm, Disarm, CallsKeepTheWheel, CallsKeepRunning, CallsSpareOthers, ArmedIsThere, DisarmedIsNone}
+use Rattle.soft_timers.specs.Laws.{Disarm, CallsKeepTheWheel, CallsKeepRunning, CallsSpareOthers, ArmedIsThere, DisarmedIsNone}
 use Rattle.soft_timers.specs.Timers.{TimerTable, armed, disarmed}
 use Rattle.suspend_lists.specs.Laws.{Finish, CallsKeepTheTable}
 use Rattle.suspend_lists.specs.Waits.{WaitTable, counted, ended as ended_wait, pending, wait_of}
@@ -24,9 +23,11 @@ use Rattle.kernel_state.specs.Sound.{IsSoundBut, IsEntry, IsTimeoutOf}
 use Rattle.kernel_state.specs.Thread.{is_over, is_waiting}
 use Rattle.kernel_state.specs.ThreadChanges.{ended, ended_now, over_by}
 use Rattle.kernel_state.specs.WaitLaws.{EndChangesOne, EndKeepsMemory, EndRaisesNone, WaitEndRaisesNone, with_waits}
-use Rattle.kernel_state.specs.Waiting.{answer_of, released, suspended_at_last, wait_ended, with_answer_to}
+use Rattle.kernel_state.specs.Waiting.{answer_of, left_wait, released, suspended_at_last, wait_ended, with_answer_to}
 use Rattle.kernel_state.specs.declared.kernel.Kernel.{Kernel}
-use Rattle.kernel_state.proofs.States.{waits_not_over}
+use Rattle.kernel_state.proofs.States.{waits_if_some, waits_not_over, waits_not_ready}
+use Rattle.kernel_state.proofs.Sound.{thread_of}
+use Rattle.ready_maps.specs.Sched.{is_ready}
 
 -- the laws of the tables
 pub record Below : Type 0 where
@@ -37,16 +38,12 @@ pub record Below : Type 0 where
   pub armed : ArmedIsThere
   pub disarmed : DisarmedIsNone
 
--- a thread leaves its wait
-abbrev pub left_wait : Kernel → ℕ → End → Kernel
-left_wait k t e = record k { waits = ended_wait k.waits t e; wheel = disarmed k.wheel t }
-
 -- a thread is in a wait where the table has one for it, and has a number below 256 then
 pub is_pending : (o : Option Pending) → IsSome (option_map (λ p. p.wait) o) → IsSome o
 is_pending None some = some
 is_pending (Some p) some = refl
 
-none_past : (w : WaitTable) (t : ℕ) → length w.waits ≤ t → wait_of w t ≡ None
+pub none_past : (w : WaitTable) (t : ℕ) → length w.waits ≤ t → wait_of w t ≡ None
 none_past w t past = ap (option_map (λ (p : Pending). p.wait)) (get_or_past w.waits t None past)
 
 pub waiter_below : (but : List ℕ) (k : Kernel) (t : ℕ) → IsSoundBut but k → IsSome (wait_of k.waits t) → t < 256
@@ -61,6 +58,16 @@ waiter_is_thread but k t sound some = by_entry (is_thread k t) (sound.formed.ent
   by_entry : (b : Bool) → IsEntry k t b → b ≡ true
   by_entry true entry = refl
   by_entry false entry = absurd (false≢true (subst IsSome entry.1 some))
+
+pub waiter_not_ready : (but : List ℕ) (k : Kernel) (t : ℕ) → IsSoundBut but k → IsSome (wait_of k.waits t) → is_ready k.ready t ≡ false
+waiter_not_ready but k t sound some =
+    let was = thread_of but k t sound (waiter_is_thread but k t sound some) in
+    was.ready ∙ waits_not_ready (thread k t).state (waits_if_some (thread k t).state (wait_of k.waits t) some was.wait)
+
+-- an answer leaves the scheduler
+pub answered-ready : (k : Kernel) (t : ℕ) (a : Option ℕ) → (with_answer_to k t a).ready ≡ k.ready
+answered-ready k t None = refl
+answered-ready k t (Some a0) = refl
 
 -- who has left waits for nothing, and each other thread as before
 pub left_is_none : (k : Kernel) (t : ℕ) (e : End) → t < length k.waits.waits → wait_of (ended_wait k.waits t e) t ≡ None

@@ -8,5 +8,5 @@ pub mod Scheduling
 pub mod Sound
 pub mod States
 pub mod ThreadChanges
-pub mod Ticks
+pub mod TickChanges
 pub mod WaitChanges

@@ -12,7 +12,7 @@ use Rattle.soft_timers.specs.Timers.{IsWheel, TimerTable, armed}
 use Rattle.soft_timers.specs.declared.due.Armed.{Armed}
 use Rattle.suspend_lists.specs.Waits.{WaitTable, wait_of}
 use Rattle.kernel_state.specs.Kernel.{thread, with_thread, has_thread, is_thread, module_of, spot, with_spot, effective_priority, effective_threshold}
-use Rattle.kernel_state.specs.Laws.{AreAlike, EntryStays, IsRight, SoundFrom, EffectiveStays, EffectiveFits, with_all, with_both, WaitsChangeOnly, Suits, OneThreadChanges, OneStateChanges, OneWaitChanges, OneHartChanges, OneSlotChanges, OneSpotChanges, ThreadIsRight}
+use Rattle.kernel_state.specs.Laws.{AreAlike, EntryStays, IsRight, SoundFrom, EffectiveStays, EffectiveFits, with_all, WaitsChangeOnly, Suits, OneThreadChanges, OneStateChanges, OneWaitChanges, OneHartChanges, OneSlotChanges, OneSpotChanges, ThreadIsRight}
 use Rattle.kernel_state.specs.Scheduling.{ChangesOnly}
 use Rattle.kernel_state.specs.Sound.{IsSettled, IsSoundBut, IsThread, IsEntry, IsSpot, IsSlice, IsClean, IsTimeoutOf, IsWaitOf}
 use Rattle.kernel_state.specs.Spot.{blank_spot}

@@ -1,5 +1,5 @@
 -- Readying, suspending, ending and resetting a thread keep a kernel sound.
-use Rattle.std.proofs.Common.{◌≡◌, ℕ, ◌<◌, ◌⊎◌, ◌==◌, Bool, true, false, List, [], refl, sym, ap, ◌∙◌, ⊎_elim, inl, inr, arith}
+use Rattle.std.proofs.Common.{◌≡◌, ℕ, ◌<◌, ◌⊎◌, ◌==◌, Bool, true, false, List, [], refl, sym, ap, ◌∙◌, subst, ⊎_elim, inl, inr, arith}
 use Rattle.std.proofs.lemmas.Bool.{cond_both, eqb-true, false≢true, false_from_ne_true, leb-true, or_cases}
 use Rattle.std.proofs.lemmas.List.{get_or-set_same}
 use Rattle.tx_types.specs.State.{state_number}
@@ -22,7 +22,8 @@ use Rattle.kernel_state.specs.ThreadLaws.{ReadyKeepsSound, UnreadyKeepsSound, He
 use Rattle.kernel_state.specs.declared.kernel.Kernel.{Kernel}
 use Rattle.kernel_state.specs.declared.thread.Thread.{Thread}
 use Rattle.kernel_state.proofs.Making.{whole_slice}
-use Rattle.kernel_state.proofs.Ends.{Below, by_end, left_changes_only, left_is_none, left_wait}
+use Rattle.kernel_state.proofs.Ends.{Below, by_end, left_changes_only, left_is_none}
+use Rattle.kernel_state.specs.Waiting.{left_wait}
 use Rattle.kernel_state.proofs.Sound.{below_256, thread_of}
 use Rattle.kernel_state.proofs.States.{over_rests, rests_on, some_if_waits, waits_not_ready}
 

@@ -1,18 +1,16 @@
 -- The beginning and the end of a wait keep a kernel sound.
-use Rattle.std.proofs.Common.{◌≡◌, ◌≢◌, ℕ, ◌+◌, ◌^◌, ◌<◌, ◌≤◌, true, false, cond, List, length, Option, None, Some, IsSome, refl, sym, ap, ◌∙◌, subst, arith}
+use Rattle.std.proofs.Common.{◌≡◌, ◌≢◌, ℕ, ◌+◌, ◌^◌, ◌<◌, ◌≤◌, true, false, cond, List, [], length, Option, None, Some, IsSome, refl, sym, ap, ◌∙◌, subst, arith}
 use Rattle.std.specs.Option.{option_map}
 use Rattle.std.proofs.lemmas.Bool.{cond_both, cond-true, false≢true}
 use Rattle.std.proofs.lemmas.List.{get_or-set_same, get_or-set_other}
-use Rattle.tx_types.specs.declared.state.State.{State}
 use Rattle.tx_types.specs.declared.state.State.TheVariants.{Ready, Suspended}
 use Rattle.tx_types.specs.declared.waits.End.{End}
 use Rattle.tx_types.specs.declared.waits.End.TheVariants.{Satisfied, TimedOut, Aborted, Deleted, Gone}
 use Rattle.ready_maps.specs.Moves.{readied, unreadied}
 use Rattle.ready_maps.specs.Sched.{is_ready}
-use Rattle.region_guard.specs.Memory.{Memory}
 use Rattle.rv_core.specs.Hart.{with_register}
-use Rattle.soft_timers.specs.Laws.{Arm}
-use Rattle.soft_timers.specs.Timers.{IsWheel, TimerTable, armed, armed_for, disarmed}
+use Rattle.soft_timers.specs.Laws.{Arm, CallsKeepRunning}
+use Rattle.soft_timers.specs.Timers.{IsRunning, IsWheel, TimerTable, armed, armed_for, disarmed}
 use Rattle.suspend_lists.specs.Waits.{IsTable, begun, ended as ended_wait, wait_of}
 use Rattle.suspend_lists.specs.declared.wait.Asks.{Asks}
 use Rattle.suspend_lists.specs.declared.wait.Asks.TheVariants.{Sleep}
@@ -21,15 +19,12 @@ use Rattle.suspend_lists.specs.declared.wait.Wait.{Wait}
 use Rattle.kernel_state.specs.Kernel.{thread, is_thread}
 use Rattle.kernel_state.specs.Laws.{OneWaitChanges, WaitsChangeOnly}
 use Rattle.kernel_state.specs.Readying.{made_ready}
-use Rattle.kernel_state.specs.Room.{RaisesCounts}
-use Rattle.kernel_state.specs.Scheduling.{ChangesOnly, ReadyChangesOne, UnreadyChangesOne}
-use Rattle.kernel_state.specs.Sound.{IsSoundBut, IsTimeoutOf, IsWaitOf}
-use Rattle.kernel_state.specs.Thread.{is_waiting}
+use Rattle.kernel_state.specs.Scheduling.{ReadyChangesOne, UnreadyChangesOne}
+use Rattle.kernel_state.specs.Sound.{IsSound, IsSoundBut, IsTimeoutOf, IsWaitOf}
 use Rattle.kernel_state.specs.WaitLaws.{BeginKeepsSound, BeginRaisesOne, WaitEndKeepsSound}
-use Rattle.kernel_state.specs.Waiting.{answer_of, gone_on, is_timed, released, state_of_ask, suspended_at_last, with_answer_to}
+use Rattle.kernel_state.specs.Waiting.{answer_of, gone_on, is_timed, left_wait, released, state_of_ask, suspended_at_last, wait_begun, with_answer_to}
 use Rattle.kernel_state.specs.declared.kernel.Kernel.{Kernel}
-use Rattle.kernel_state.specs.declared.thread.Thread.{Thread}
-use Rattle.kernel_state.proofs.Ends.{Below, left_changes_only, left_is_none, left_wait, waiter_below, waiter_is_thread}
+use Rattle.kernel_state.proofs.Ends.{Below, left_changes_only, left_is_none, waiter_below, waiter_is_thread}
 use Rattle.kernel_state.proofs.Making.{whole_slice}
 use Rattle.kernel_state.proofs.Sound.{below_256, hart_changes, thread_of}
 use Rattle.kernel_state.proofs.States.{ask_waits, none_if_rests, waits_if_some, waits_not_ready}
@@ -85,6 +80,16 @@ begin_keeps_sound changes unreadies below but k t w ticks sound live ready right
     }) (unready.ready ∙ sym (waits_not_ready asked (ask_waits w.asks))) was.slice (λ held. ask_waits w.asks)
     (subst (IsWaitOf asked) (sym (begun_is k t w (omega (arith, sound.formed.waits.threads)))) (refl, right))
     (begun_changes_only below but k t w ticks sound inside none table later short)
+
+-- a timeout that is armed then has at least one tick left
+pub begin_keeps_running : CallsKeepRunning → (k : Kernel) (t : ℕ) (w : Wait) (ticks : ℕ) → IsSound k → is_thread k t ≡ true → is_ready k.ready t ≡ true
+    → 0 < ticks → ticks < 2 ^ 32 → IsRunning k.wheel → IsRunning (wait_begun k t w ticks).wheel
+begin_keeps_running keeps k t w ticks sound live ready later short running =
+    let was = thread_of [] k t sound live in
+    let inside = below_256 k t sound.formed.slots live in
+    let none = none_if_rests (thread k t).state (wait_of k.waits t) (ready_rests [] k t sound live ready) was.wait in
+    cond_both (is_timed w.asks ticks) (armed_for k.wheel t ticks) k.wheel IsRunning
+    (λ _. keeps k.wheel (Arm t ticks) (none_armed [] k t sound none, omega arith, later, short) running) (λ _. running)
 
 -- a thread that left its wait goes on
 gone_on_sound : OneWaitChanges → ReadyChangesOne → Below → (but : List ℕ) (k : Kernel) (t : ℕ) (e : End) → IsSoundBut but k → IsSome (wait_of k.waits t)

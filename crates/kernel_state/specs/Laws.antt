@@ -60,7 +60,8 @@ pub record IsRight (but : List ℕ) (k : Kernel) (u : ℕ) : Type 0 where
   pub entry : IsEntry k u (is_thread k u)
   pub settled : is_thread k u ≡ true → has u but ≡ false → IsSettled k u
 
--- a kernel is sound where another was: each number looks the same or is right, and slots, spots and timeouts are as they must be
+-- a kernel is sound where another was: each number looks the same or is right, and slots, spots and
+-- timeouts are as they must be
 pub record IsSoundFrom (but : List ℕ) (k now : Kernel) : Type 0 where
   pub scheduler : IsKept now.ready
   pub levels : now.ready.levels ≡ k.ready.levels
@@ -94,13 +95,13 @@ pub record WaitsChangeOnly (k : Kernel) (w : WaitTable) (h : TimerTable) (t : �
   pub timeout : IsTimeoutOf (wait_of w t) (armed h t)
 
 -- the own facts of a thread that changes, by the scheduler that goes with it and its wait
-pub record Suits (s : Sched) (wait : Option Wait) (t : ℕ) (now : Thread) : Type 0 where
+pub record Suits (s : Sched) (o : Option Wait) (t : ℕ) (now : Thread) : Type 0 where
   pub ready : is_ready s t ≡ is_state now.state Ready
   pub priority : now.priority < s.levels
   pub threshold : now.threshold ≤ now.priority
   pub slice : IsSlice now.slice now.left
   pub held : now.held ≡ true → is_waiting now.state ≡ true
-  pub wait : IsWaitOf now.state wait
+  pub wait : IsWaitOf now.state o
 
 -- one thread and the scheduler change, and agree
 abbrev pub OneThreadChanges : Type 0
@@ -128,10 +129,10 @@ OneStateChanges =
 -- so it is too where the thread's wait begins or ends
 abbrev pub OneWaitChanges : Type 0
 OneWaitChanges =
-    (but : List ℕ) (k : Kernel) (t : ℕ) (now : Thread) (s : Sched) (w : WaitTable) (h : TimerTable) → IsSoundBut but k
-    → is_thread k t ≡ true → KeepsNumbers k t now s → is_ready s t ≡ is_state now.state Ready
-    → IsSlice now.slice now.left → (now.held ≡ true → is_waiting now.state ≡ true) → IsWaitOf now.state (wait_of w t)
-    → WaitsChangeOnly k w h t → IsSoundBut but (with_all k t now s w h)
+    (but : List ℕ) (k : Kernel) (t : ℕ) (now : Thread) (s : Sched) (w : WaitTable) (h : TimerTable)
+    → IsSoundBut but k → is_thread k t ≡ true → KeepsNumbers k t now s → is_ready s t ≡ is_state now.state Ready
+    → IsSlice now.slice now.left → (now.held ≡ true → is_waiting now.state ≡ true)
+    → IsWaitOf now.state (wait_of w t) → WaitsChangeOnly k w h t → IsSoundBut but (with_all k t now s w h)
 
 -- a thread's registers change
 abbrev pub OneHartChanges : Type 0

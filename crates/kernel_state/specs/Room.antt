@@ -1,8 +1,9 @@
--- How far the counts of waits, armings and ticks may go, which is never reached, and by how much a change raises them.
+-- How far the counts of waits, armings and ticks may go, and by how much a change raises them.
 use Rattle.std.specs.Prelude.{ℕ, ◌+◌, ◌-◌, ◌^◌, ◌≤◌}
 use Rattle.kernel_state.specs.declared.kernel.Kernel.{Kernel}
 
--- each count is at most 2 ^ 63 - 1024 before whatever begins a wait, arms a timeout or ticks
+-- Each count is at most this before whatever begins a wait, arms a timeout or ticks. No board runs
+-- so long: an event raises each by fewer than 1024.
 abbrev pub count_limit : ℕ
 count_limit = 2 ^ 63 - 1024
 

@@ -40,7 +40,7 @@ abbrev pub IsWaitOf : State → Option Wait → Type 0
 IsWaitOf state None = is_waiting state ≡ false
 IsWaitOf state (Some w) = (state ≡ state_of_ask w.asks) × IsWait w
 
--- a sleeper's timeout is armed, and so is that of no number that isn't in a wait; timer objects are never armed yet
+-- a sleeper's timeout is armed, and who is in no wait has none that is; timers are never armed yet
 abbrev pub IsTimeoutOf : Option Wait → Option Armed → Type 0
 IsTimeoutOf None timeout = timeout ≡ None
 IsTimeoutOf (Some w) timeout = w.asks ≡ Sleep → IsSome timeout

@@ -1,4 +1,4 @@
--- A tick of the clock: what is due has its turn, and then the running thread uses up its time slice.
+-- A tick of the clock: what is due has its turn, and then the time slice of the running thread.
 use Rattle.std.specs.Prelude.{ℕ, ◌+◌, ◌-◌, ◌^◌, ◌%◌, ◌==◌, ◌&&◌, Bool, false, nat_lt, List, [], ◌∷◌, Option, None, Some, if◌then◌else◌}
 use Rattle.std.specs.Option.{option_map_or}
 use Rattle.tx_types.specs.Limits.{slot_limit}
@@ -34,7 +34,7 @@ abbrev pub turns : List Armed → Kernel → Memory → Change
 turns [] k g = quiet k g
 turns (d ∷ ds) k g = followed (turn k g d) (turns ds)
 
--- a thread shares the processor by time slices where it has one, and its threshold lets its equals run
+-- a thread shares the processor by time slices where it has one, and lets its equals run
 abbrev pub has_slice : Thread → Bool
 has_slice x = nat_lt 0 x.slice && (x.threshold == x.priority)
 
@@ -56,9 +56,10 @@ abbrev pub slice_treated : Option ℕ → Kernel → Kernel
 slice_treated None k = k
 slice_treated (Some t) k = if runs k t && has_slice (thread k t) then slice_used k t else k
 
--- A tick: it is counted, each that is due has its turn, in order of arming, and then the time slice is treated. The list of what
--- is due is empty but in a tick.
+-- A tick: it is counted, each that is due has its turn, in order of arming, and then the time slice
+-- is treated. The list of what is due is empty but in a tick.
 abbrev pub advanced : Kernel → Memory → Change
 advanced k g =
     followed (quiet (tick_counted k) g) (λ now h.
-    followed (turns now.due now h) (λ now h. quiet (slice_treated k.ready.run (record now { due = [] })) h))
+    followed (turns now.due now h) (λ now h.
+    quiet (slice_treated k.ready.run (record now { due = [] })) h))

@@ -1,4 +1,5 @@
--- The beginning and the end of a wait, and a tick, keep a kernel sound; what they raise and what they leave alone.
+-- The beginning and the end of a wait, and a tick, keep a kernel sound; by how much they raise its
+-- counts; and what the end of a thread leaves alone.
 use Rattle.std.specs.Prelude.{◌≡◌, ◌≢◌, ℕ, ◌^◌, ◌<◌, true, List, IsSome}
 use Rattle.tx_types.specs.declared.state.State.{State}
 use Rattle.tx_types.specs.declared.waits.End.{End}
@@ -7,7 +8,7 @@ use Rattle.ready_maps.specs.Sched.{is_ready}
 use Rattle.region_guard.specs.Memory.{Memory}
 use Rattle.suspend_lists.specs.Waits.{IsTable, WaitTable, begun, wait_of}
 use Rattle.suspend_lists.specs.declared.wait.Wait.{Wait}
-use Rattle.soft_timers.specs.Timers.{IsRunning, TimerTable}
+use Rattle.soft_timers.specs.Timers.{TimerTable}
 use Rattle.kernel_state.specs.Kernel.{is_thread}
 use Rattle.kernel_state.specs.Room.{HasRoom, RaisesCounts}
 use Rattle.kernel_state.specs.Serves.{Serves}
@@ -35,13 +36,14 @@ WaitEndKeepsSound =
 abbrev pub TickKeepsServing : Type 0
 TickKeepsServing = (k : Kernel) (g : Memory) → Serves k g → HasRoom k → Leaves (advanced k g)
 
--- one change begins one wait at most, and arms one timeout at most; a tick is one, and an end raises no count
+-- one change begins one wait at most and arms one timeout at most; an end raises no count
 abbrev pub BeginRaisesOne : Type 0
 BeginRaisesOne = (k : Kernel) (t : ℕ) (w : Wait) (ticks : ℕ) → RaisesCounts 1 k (wait_begun k t w ticks)
 
 abbrev pub WaitEndRaisesNone : Type 0
 WaitEndRaisesNone =
-    (k : Kernel) (g : Memory) (t : ℕ) (e : End) (value : List ℕ) → RaisesCounts 0 k (wait_ended k g t e value).kernel
+    (k : Kernel) (g : Memory) (t : ℕ) (e : End) (value : List ℕ)
+    → RaisesCounts 0 k (wait_ended k g t e value).kernel
 
 abbrev pub EndRaisesNone : Type 0
 EndRaisesNone =
@@ -50,7 +52,8 @@ EndRaisesNone =
 abbrev pub TickRaisesOne : Type 0
 TickRaisesOne = (k : Kernel) (g : Memory) → RaisesCounts 1 k (advanced k g).kernel
 
--- the end of a thread changes no byte, and but for waits and timeouts its own entry and the scheduler alone
+-- the end of a thread changes no byte, and but for waits and timeouts its own entry and the
+-- scheduler alone
 abbrev pub with_waits : Kernel → WaitTable → TimerTable → Kernel
 with_waits k w h = record k { waits = w; wheel = h }
 

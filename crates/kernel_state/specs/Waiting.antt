@@ -21,7 +21,7 @@ use Rattle.kernel_state.specs.Registers.{with_a0}
 use Rattle.kernel_state.specs.Thread.{is_state}
 use Rattle.kernel_state.specs.declared.kernel.Kernel.{Kernel}
 
--- the state of a thread that waits, by what it asked for; a wait for a callback has the state of one at a queue
+-- the state of a thread that waits, by what it asked for; a callback is waited for as a message
 abbrev pub state_of_ask : Asks → State
 state_of_ask Sleep = Asleep
 state_of_ask (Receive to) = QueueSusp
@@ -45,7 +45,8 @@ wanted_at (Bytes size to) = Some to
 wanted_at (Block to) = Some to
 wanted_at (Callback to) = Some to
 
--- the number of ticks by which a wait that isn't a sleep goes on for ever (ThreadX User Guide, TX_WAIT_FOREVER)
+-- by this number of ticks a wait that isn't a sleep goes on for ever (ThreadX User Guide,
+-- TX_WAIT_FOREVER)
 abbrev pub wait_forever : ℕ
 wait_forever = 0xFFFFFFFF
 
@@ -53,7 +54,8 @@ wait_forever = 0xFFFFFFFF
 abbrev pub is_timed : Asks → ℕ → Bool
 is_timed asks ticks = is_state (state_of_ask asks) Asleep || not (ticks == wait_forever)
 
--- the owner of an inheriting mutex at which a thread waits, or waited, gets its effective pair; no thread owns one yet
+-- the owner of an inheriting mutex at which a thread waits, or waited, gets its effective pair; no
+-- thread owns one yet
 abbrev pub owner_settled : Kernel → Option ℕ → Kernel
 owner_settled k place = k
 
@@ -68,9 +70,12 @@ abbrev pub wait_begun : Kernel → ℕ → Wait → ℕ → Kernel
 wait_begun k t w ticks = let now = in_wait k t w ticks in owner_settled now (place_of now.waits t)
 
 -- a thread leaves its place, and its timeout is disarmed: this ends its wait
+abbrev pub left_wait : Kernel → ℕ → End → Kernel
+left_wait k t e = record k { waits = ended k.waits t e; wheel = disarmed k.wheel t }
+
 abbrev pub out_of_wait : Kernel → Memory → ℕ → End → Change
 out_of_wait k g t e = record {
-  kernel = record k { waits = ended k.waits t e; wheel = disarmed k.wheel t };
+  kernel = left_wait k t e;
   memory = g;
   ends = option_to_list (option_map (λ n. record { wait = n; how = e }) (number_of k.waits t));
 }
@@ -83,7 +88,8 @@ result_of w Aborted = None
 result_of w Deleted = None
 result_of w Gone = None
 
--- what the call answers whose wait ends so: after a timeout what it said itself, and none for who is gone
+-- what the call answers whose wait ends so: after a timeout what it said itself; who is gone gets no
+-- answer
 abbrev pub answer_of : Option Wait → End → Option ℕ
 answer_of w Satisfied = Some success
 answer_of w TimedOut = option_map (λ x. x.code) w
@@ -98,7 +104,8 @@ with_result g (Some to) value = with_words g to value
 -- the result of a thread's wait may be stored there
 abbrev pub MayHaveResult : Kernel → Memory → ℕ → End → List ℕ → Type 0
 MayHaveResult k g t e value =
-    IfSome (result_of (wait_of k.waits t) e) (λ to. may g (module_of k t) Store to (4 * length value) ≡ true)
+    IfSome (result_of (wait_of k.waits t) e)
+    (λ to. may g (module_of k t) Store to (4 * length value) ≡ true)
 
 abbrev pub with_answer_to : Kernel → ℕ → Option ℕ → Kernel
 with_answer_to k t None = k

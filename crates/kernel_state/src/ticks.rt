@@ -11,13 +11,13 @@ ghost use Rattle.kernel_state.specs.Sound.{IsSound};
 ghost use Rattle.kernel_state.specs.Ticks.{tick_counted, expired, turn, turns, has_slice, with_left, slice_used, runs, slice_treated, advanced};
 
 use crate::kernel::Kernel;
-use crate::laws::{a_tick_keeps_serving, who_runs_is_a_thread};
+use crate::laws::a_tick_keeps_serving;
 use crate::thread::Thread;
 use region_guard::Guard;
-use soft_timers::{TimerId, Whose};
+use soft_timers::{TimerId, Whose, calls_keep_the_wheel};
 use tx_types::{End, Message, ThreadNo};
 
-/// Whether a thread shares the processor by time slices: it has one, and its threshold is its priority.
+/// Whether a thread shares the processor by time slices.
 fn has_slice(thread: &Thread) -> bool
     ensures { result ≡ has_slice thread.now }
 {
@@ -25,8 +25,9 @@ fn has_slice(thread: &Thread) -> bool
 }
 
 impl Kernel {
-    /// A tick comes: the clock is one higher, each timeout that is due has its turn, in order of arming,
-    /// and then the time slice is treated of the thread that ran before, where it still runs.
+    /// A tick comes: the clock is one higher, each timeout that is due has its turn, in order of
+    /// arming, and then the time slice is treated of the thread that ran before, where it still
+    /// runs.
     pub fn advance_clock(&mut self, g: &mut Guard)
         requires serves { Serves self.old g.old }
         requires room { HasRoom self.old }
@@ -35,6 +36,7 @@ impl Kernel {
         ensures serves { Serves self.new g.new }
     {
         a_tick_keeps_serving();
+        calls_keep_the_wheel();
         let ran = self.running();
         self.count_tick();
         self.take_turns(g);
@@ -73,7 +75,8 @@ impl Kernel {
         ensures sound { IsSound self.new }
     {
         if self.is_still_armed(i) {
-            self.expire(g, self.due.id(i));
+            let id = self.due_at(i);
+            self.expire(g, id);
         }
     }
 
@@ -83,6 +86,14 @@ impl Kernel {
         ensures { HoldsAt (λ d. result ≡ still self.now.wheel d) self.now.due i }
     {
         self.wheel.still(&self.due, i)
+    }
+
+    /// The number of what is due.
+    fn due_at(&self, i: u16) -> TimerId
+        requires { i < length self.now.due }
+        ensures { HoldsAt (λ d. result ≡ d.id) self.now.due i }
+    {
+        self.due.id(i)
     }
 
     /// A timeout ends the wait of its thread.
@@ -110,7 +121,8 @@ impl Kernel {
         }
     }
 
-    /// One tick less is left of a time slice; where none is, it is whole again, and the thread yields.
+    /// One tick less is left of a time slice; where none is, it is whole again, and the thread
+    /// yields.
     fn use_slice(&mut self, t: ThreadNo)
         requires runs { self.old.ready.run ≡ Some t }
         requires some { 0 < (thread self.old t).left }

@@ -5,18 +5,18 @@
 ghost use Rattle.std.specs.Prelude.{◌≡◌, ◌≢◌, ◌↔◌, ◌<◌, ◌*◌, true, false, length, IsSome, IfSome, Some};
 ghost use Rattle.region_guard.specs.Memory.{may};
 ghost use Rattle.ready_maps.specs.Sched.{is_ready};
-ghost use Rattle.soft_timers.specs.Timers.{IsRunning, disarmed};
-ghost use Rattle.suspend_lists.specs.Waits.{ended, wait_of};
+ghost use Rattle.soft_timers.specs.Timers.{IsRunning};
+ghost use Rattle.suspend_lists.specs.Waits.{wait_of};
 ghost use Rattle.kernel_state.specs.Kernel.{module_of};
 ghost use Rattle.kernel_state.specs.Room.{HasRoom};
 ghost use Rattle.kernel_state.specs.Sound.{IsSound, IsWait};
-ghost use Rattle.kernel_state.specs.Waiting.{state_of_ask, wanted_at, is_timed, result_of, with_result, answer_of, with_answer_to, released, gone_on, suspended_at_last, wait_begun, wait_ended, MayHaveResult};
+ghost use Rattle.kernel_state.specs.Waiting.{state_of_ask, wanted_at, is_timed, result_of, with_result, answer_of, with_answer_to, left_wait, released, gone_on, suspended_at_last, wait_begun, wait_ended, MayHaveResult};
 
 use crate::kernel::Kernel;
 use crate::laws::{a_wait_keeps_sound, who_runs_is_a_thread};
 use call_arguments::put_words;
 use region_guard::{Access, Guard};
-use soft_timers::{TimerId, Whose};
+use soft_timers::{TimerId, Whose, each_has_a_tick_left};
 use suspend_lists::{Asks, Wait};
 use tx_types::{Code, End, Message, ModNo, State, ThreadNo};
 
@@ -97,7 +97,7 @@ fn put_result(g: &mut Guard, m: ModNo, to: Option<u32>, value: &Message)
 const COUNT_LIMIT: u64 = (1 << 63) - 1024;
 
 impl Kernel {
-    /// Whether there is room for more waits, armings and ticks. There always is: no board runs so long.
+    /// Whether there is room for more waits, armings and ticks, as there is on every board.
     pub fn has_room(&self) -> bool
         ensures { (result ≡ true) ↔ HasRoom self.now }
     {
@@ -106,8 +106,8 @@ impl Kernel {
             && self.wheel.ticks() <= COUNT_LIMIT
     }
 
-    /// The running thread begins to wait, last at the place of its wait, and its timeout is armed: that
-    /// of a sleep for every number of ticks, any other but for 0xFFFFFFFF.
+    /// The running thread begins to wait, last at the place of its wait, and its timeout is armed:
+    /// that of a sleep for every number of ticks, any other but for 0xFFFFFFFF.
     pub fn begin_wait(&mut self, t: ThreadNo, w: Wait, ticks: u32)
         requires sound { IsSound self.old }
         requires ready { is_ready self.old.ready t ≡ true }
@@ -120,6 +120,7 @@ impl Kernel {
     {
         a_wait_keeps_sound();
         who_runs_is_a_thread();
+        each_has_a_tick_left();
         let timed = is_timed(&w.asks, ticks);
         self.make_unready(t, state_of_ask(&w.asks));
         self.waits.begin(t, w);
@@ -130,8 +131,8 @@ impl Kernel {
     }
 
     /// The wait of a thread ends: it leaves its place, the result is written where its call asked,
-    /// a0 is set, and the thread is ready, or suspended where that was held. One that is gone leaves
-    /// its place, and nothing else happens to it here.
+    /// a0 is set, and the thread is ready, or suspended where that was held. One that is gone
+    /// leaves its place, and nothing else happens to it here.
     pub fn end_wait(&mut self, g: &mut Guard, t: ThreadNo, e: End, value: &Message)
         requires sound { IsSound self.old }
         requires waits { IsSome (wait_of self.old.waits t) }
@@ -150,7 +151,7 @@ impl Kernel {
     /// A thread leaves its place, and its timeout is disarmed.
     fn leave_wait(&mut self, t: ThreadNo, e: End) -> Wait
         requires waits { IsSome (wait_of self.old.waits t) }
-        ensures after { self.new ≡ record self.old { waits = ended self.old.waits t e; wheel = disarmed self.old.wheel t } }
+        ensures after { self.new ≡ left_wait self.old t e }
         ensures wait { wait_of self.old.waits t ≡ Some result }
     {
         self.wheel.disarm(TimerId::of(Whose::Timeout(t)));

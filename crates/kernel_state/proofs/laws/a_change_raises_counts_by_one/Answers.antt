@@ -1,5 +1,5 @@
 use Rattle.kernel_state.proofs.Ends.{end_raises_none, wait_end_raises_none}
-use Rattle.kernel_state.proofs.Ticks.{tick_raises_one}
+use Rattle.kernel_state.proofs.TickChanges.{tick_raises_one}
 use Rattle.kernel_state.proofs.WaitChanges.{begin_raises_one}
 use Rattle.kernel_state.proofs.laws.a_change_raises_counts_by_one.Goals as goal
 

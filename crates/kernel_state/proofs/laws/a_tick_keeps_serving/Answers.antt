@@ -1,4 +1,4 @@
-use Rattle.kernel_state.proofs.Ticks.{tick_keeps_serving}
+use Rattle.kernel_state.proofs.TickChanges.{tick_keeps_serving}
 use Rattle.kernel_state.proofs.laws.a_tick_keeps_serving.Goals as goal
 
 pub returns : goal.returns

@@ -1,6 +1,7 @@
 use Rattle.std.proofs.Common.{◌≡◌, ap, subst, sym, ◌∙◌}
 use Rattle.kernel_state.specs.Serves.{Serves}
-use Rattle.kernel_state.specs.ThreadChanges.{made_ready, started}
+use Rattle.kernel_state.specs.Readying.{made_ready}
+use Rattle.kernel_state.specs.ThreadChanges.{started}
 use Rattle.kernel_state.proofs.thread_changes.start_thread.Goals as goal
 
 pub returns-clause-kernel : goal.returns-clause-kernel

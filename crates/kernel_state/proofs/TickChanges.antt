@@ -1,30 +1,25 @@
 -- A tick keeps a kernel serving: each turn does, and so does the treatment of the time slice.
-use Rattle.std.proofs.Common.{◌≡◌, ◌≢◌, ℕ, ◌+◌, ◌-◌, ◌^◌, ◌<◌, ◌≤◌, ◌==◌, ◌&&◌, Bool, true, false, nat_lt, List, [], ◌∷◌, length, Option, None, Some, IsSome, refl, sym, ap, ◌∙◌, subst, ⊎_elim, inl, inr, arith}
+use Rattle.std.proofs.Common.{◌≡◌, ◌≢◌, ℕ, ◌-◌, ◌<◌, ◌≤◌, ◌==◌, ◌&&◌, true, false, nat_lt, List, [], ◌∷◌, Option, None, Some, IsSome, refl, sym, ap, ◌∙◌, subst, ⊎_elim, inr, arith}
 use Rattle.std.specs.Option.{option_map, option_map_or}
 use Rattle.std.proofs.lemmas.Bool.{and_parts, cond_both, eqb-true, eqb-false, false≢true, ltb-true, ltb-false}
-use Rattle.std.proofs.lemmas.List.{set-get_or}
-use Rattle.tx_types.specs.declared.state.State.TheVariants.{Ready}
 use Rattle.tx_types.specs.declared.waits.End.TheVariants.{TimedOut, Gone}
 use Rattle.ready_maps.specs.Moves.{yielded}
-use Rattle.ready_maps.specs.Sched.{is_ready}
 use Rattle.region_guard.specs.Memory.{Memory}
 use Rattle.soft_timers.specs.Laws.{Disarm, IsRunningBut, CallsAddNone, DisarmedIsOver, NoneIsRunning, TicksKeepTheWheel, TicksLeaveTheDue, TurnsTakeOne}
-use Rattle.soft_timers.specs.Timers.{IsRunning, IsWheel, TimerTable, armed, disarmed, due_now, still, ticked}
+use Rattle.soft_timers.specs.Timers.{IsRunning, TimerTable, armed, disarmed, due_now, still, ticked}
 use Rattle.soft_timers.specs.declared.due.Armed.{Armed}
 use Rattle.suspend_lists.specs.Waits.{WaitTable, wait_of}
 use Rattle.suspend_lists.specs.declared.wait.Wait.{Wait}
 use Rattle.kernel_state.specs.Change.{Change, quiet}
-use Rattle.kernel_state.specs.Kernel.{thread, with_thread, is_thread}
-use Rattle.kernel_state.specs.Laws.{OneStateChanges, RunningIsReady, ReadyIsThread}
+use Rattle.kernel_state.specs.Kernel.{thread}
+use Rattle.kernel_state.specs.Laws.{OneStateChanges}
 use Rattle.kernel_state.specs.Room.{HasRoom, RaisesCounts}
 use Rattle.kernel_state.specs.Scheduling.{YieldChangesNone}
-use Rattle.kernel_state.specs.Sound.{IsSound, IsSlice, IsThread, IsTimeoutOf, IsWaitOf}
-use Rattle.kernel_state.specs.Thread.{is_state}
-use Rattle.kernel_state.specs.Ticks.{advanced, expired, has_slice, runs, slice_treated, slice_used, tick_counted, turn, turns, with_left}
+use Rattle.kernel_state.specs.Sound.{IsSound, IsSlice, IsTimeoutOf}
+use Rattle.kernel_state.specs.Ticks.{expired, has_slice, runs, slice_treated, slice_used, tick_counted, turn, turns, with_left}
 use Rattle.kernel_state.specs.WaitLaws.{TickKeepsServing, TickRaisesOne, WaitEndKeepsSound}
 use Rattle.kernel_state.specs.Waiting.{wait_ended}
 use Rattle.kernel_state.specs.declared.kernel.Kernel.{Kernel}
-use Rattle.kernel_state.specs.declared.thread.Thread.{Thread}
 use Rattle.kernel_state.proofs.Ends.{Below, none_past, wait_end_raises_none, wait_ended-due, wait_ended-wheel}
 use Rattle.kernel_state.proofs.Making.{whole_slice}
 use Rattle.kernel_state.proofs.Running.{running_is_ready, ready_is_thread}
@@ -45,7 +40,7 @@ pub record Lower : Type 0 where
   pub leave_due : TicksLeaveTheDue
 
 -- what is still armed is armed, and so is the timeout of a thread that waits
-still_armed : (o : Option Armed) (n : ℕ) → option_map_or (λ m. m == n) (option_map (λ e. e.arming) o) false ≡ true → IsSome o
+pub still_armed : (o : Option Armed) (n : ℕ) → option_map_or (λ m. m == n) (option_map (λ e. e.arming) o) false ≡ true → IsSome o
 still_armed None n is = absurd (false≢true is)
 still_armed (Some e) n is = refl
 
@@ -107,6 +102,14 @@ runs_is (Some u) t is = ap Some (eqb-true u t is)
 pub some_left : (slice left : ℕ) → 0 < slice → IsSlice slice left → (1 ≤ left) × (left ≤ slice)
 some_left slice left some right = ⊎_elim (λ none. absurd (omega (arith, none.0))) (λ part. part) right
 
+-- a thread that runs with a time slice has some of it left
+pub slice_left : (k : Kernel) (t : ℕ) → IsSound k → k.ready.run ≡ Some t → has_slice (thread k t) ≡ true → 0 < (thread k t).left
+slice_left k t sound is has =
+    let live = ready_is_thread k t sound (running_is_ready k t sound is) in
+    let slice = and_parts (nat_lt 0 (thread k t).slice) ((thread k t).threshold == (thread k t).priority) has in
+    let left = some_left (thread k t).slice (thread k t).left (ltb-true 0 (thread k t).slice slice.0) (thread_of [] k t sound live).slice in
+    omega (arith, left.0)
+
 slice_used_sound : Lower → (k : Kernel) (t : ℕ) → IsSound k → k.ready.run ≡ Some t → 0 < (thread k t).slice → IsSound (slice_used k t)
 slice_used_sound lower k t sound is some =
     let ready = running_is_ready k t sound is in
@@ -152,14 +155,14 @@ slice_treated_part part stays (Some t) k =
     (λ _. stays k (record (with_left k t (thread k t).slice) { ready = yielded k.ready }) refl refl) (λ _. stays k (with_left k t ((thread k t).left - 1)) refl refl))
     (λ _. refl)
 
-counted_sound : Lower → (k : Kernel) → IsSound k → IsRunning k.wheel → HasRoom k → IsSound (tick_counted k)
-counted_sound lower k sound running room =
-    time_changes [] k (ticked k.wheel) _ (due_now (ticked k.wheel)) sound (lower.tick k.wheel sound.formed.wheel running (omega (arith, room.ticks))) (λ i. refl)
+pub counted_sound : TicksKeepTheWheel → (k : Kernel) → IsSound k → IsRunning k.wheel → HasRoom k → IsSound (tick_counted k)
+counted_sound tick k sound running room =
+    time_changes [] k (ticked k.wheel) _ (due_now (ticked k.wheel)) sound (tick k.wheel sound.formed.wheel running (omega (arith, room.ticks))) (λ i. refl)
 
 pub tick_keeps_serving : Lower → TickKeepsServing
 tick_keeps_serving lower k g serves room =
     let counted = tick_counted k in
-    let all = turns_sound lower counted.due counted g (counted_sound lower k serves.sound serves.running room) (lower.leave_due k.wheel serves.running) in
+    let all = turns_sound lower counted.due counted g (counted_sound lower.tick k serves.sound serves.running room) (lower.leave_due k.wheel serves.running) in
     let after = (turns counted.due counted g).kernel in
     let cleared : Kernel = record after { due = [] } in
     let sound = time_changes [] after after.wheel after.clock [] all.0 all.0.formed.wheel (λ i. refl) in
