@@ -213,6 +213,7 @@ fn ask(k: &mut Kernel, t: ThreadNo, service: u32, a: [u32; 3])
     requires { IsSound k.old }
     ensures sound { IsSound k.new }
     ensures ready { k.new.ready ≡ k.old.ready }
+    ensures wheel { k.new.wheel ≡ k.old.wheel }
 {
     a_kernel_stays_sound();
     let mut hart = *k.hart(t);
@@ -255,7 +256,8 @@ fn asleep(asked: Prio) -> Wait
 
 fn set(k: &mut Kernel, r: u8, value: u32) -> bool
     requires { IsSound k.old }
-    ensures { IsSound k.new }
+    ensures sound { IsSound k.new }
+    ensures wheel { k.new.wheel ≡ k.old.wheel }
 {
     a_kernel_stays_sound();
     let Some(t) = k.running() else {
@@ -315,7 +317,8 @@ fn fault(
 
 fn reserve(k: &mut Kernel, m: ModNo) -> bool
     requires { IsSound k.old }
-    ensures { IsSound k.new }
+    ensures sound { IsSound k.new }
+    ensures wheel { k.new.wheel ≡ k.old.wheel }
 {
     a_change_of_slots_keeps_sound();
     k.objects.allocate(m, Kind::Semaphore).is_some()
@@ -323,7 +326,8 @@ fn reserve(k: &mut Kernel, m: ModNo) -> bool
 
 fn grant(k: &mut Kernel, m: ModNo, o: ObjNo) -> bool
     requires { IsSound k.old }
-    ensures { IsSound k.new }
+    ensures sound { IsSound k.new }
+    ensures wheel { k.new.wheel ≡ k.old.wheel }
 {
     a_change_of_slots_keeps_sound();
     let is_live = k.objects.slot(o).is_in(SlotState::Live);
