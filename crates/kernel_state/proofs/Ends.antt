@@ -64,10 +64,26 @@ waiter_not_ready but k t sound some =
     let was = thread_of but k t sound (waiter_is_thread but k t sound some) in
     was.ready ∙ waits_not_ready (thread k t).state (waits_if_some (thread k t).state (wait_of k.waits t) some was.wait)
 
+-- what holds of a kernel whether a thread goes on or not
+pub by_release : (j : Kernel) (t : ℕ) (e : End) (P : Kernel → Type 0) → P j → P (suspended_at_last j t) → P (made_ready j t) → P (released j t e)
+by_release j t Satisfied P left held ready = cond_both (thread j t).held (suspended_at_last j t) (made_ready j t) P (λ _. held) (λ _. ready)
+by_release j t TimedOut P left held ready = cond_both (thread j t).held (suspended_at_last j t) (made_ready j t) P (λ _. held) (λ _. ready)
+by_release j t Aborted P left held ready = cond_both (thread j t).held (suspended_at_last j t) (made_ready j t) P (λ _. held) (λ _. ready)
+by_release j t Deleted P left held ready = cond_both (thread j t).held (suspended_at_last j t) (made_ready j t) P (λ _. held) (λ _. ready)
+by_release j t Gone P left held ready = left
+
 -- an answer leaves the scheduler
 pub answered-ready : (k : Kernel) (t : ℕ) (a : Option ℕ) → (with_answer_to k t a).ready ≡ k.ready
 answered-ready k t None = refl
 answered-ready k t (Some a0) = refl
+
+-- and timeouts, as going on does
+pub answered-wheel : (k : Kernel) (t : ℕ) (a : Option ℕ) → (with_answer_to k t a).wheel ≡ k.wheel
+answered-wheel k t None = refl
+answered-wheel k t (Some a0) = refl
+
+pub released-wheel : (k : Kernel) (t : ℕ) (e : End) → (released k t e).wheel ≡ k.wheel
+released-wheel k t e = by_release k t e (λ j. j.wheel ≡ k.wheel) refl refl refl
 
 -- who has left waits for nothing, and each other thread as before
 pub left_is_none : (k : Kernel) (t : ℕ) (e : End) → t < length k.waits.waits → wait_of (ended_wait k.waits t e) t ≡ None
@@ -114,14 +130,7 @@ end_changes_one k g t state =
       is_ended : is_over (thread k t).state ≡ false → over_by k t state ≡ ended_now k t state
       is_ended runs = cond-false (is_over (thread k t).state) k (ended_now k t state) runs
 
--- what holds of a thread that left its wait, whatever its answer was, and then goes on or not, holds after the end of the wait
-pub by_release : (j : Kernel) (t : ℕ) (e : End) (P : Kernel → Type 0) → P j → P (suspended_at_last j t) → P (made_ready j t) → P (released j t e)
-by_release j t Satisfied P left held ready = cond_both (thread j t).held (suspended_at_last j t) (made_ready j t) P (λ _. held) (λ _. ready)
-by_release j t TimedOut P left held ready = cond_both (thread j t).held (suspended_at_last j t) (made_ready j t) P (λ _. held) (λ _. ready)
-by_release j t Aborted P left held ready = cond_both (thread j t).held (suspended_at_last j t) (made_ready j t) P (λ _. held) (λ _. ready)
-by_release j t Deleted P left held ready = cond_both (thread j t).held (suspended_at_last j t) (made_ready j t) P (λ _. held) (λ _. ready)
-by_release j t Gone P left held ready = left
-
+-- a part of the kernel that no answer and no going on changes
 pub by_answer : (j : Kernel) (t : ℕ) (e : End) (a : Option ℕ) {X : Type 0} (part : Kernel → X)
     → ((now : Kernel) → part (suspended_at_last now t) ≡ part now) → ((now : Kernel) → part (made_ready now t) ≡ part now)
     → ((a0 : ℕ) → part (with_answer_to j t (Some a0)) ≡ part j) → part (released (with_answer_to j t a) t e) ≡ part j

@@ -4,10 +4,13 @@ use Rattle.std.proofs.lemmas.Bool.{eq-eqb, eqb-true, false≢true, or_cases, or_
 use Rattle.std.proofs.lemmas.List.Elements.{All-head, All-tail}
 use Rattle.ready_maps.specs.Kept.{RunsRightly}
 use Rattle.ready_maps.specs.Sched.{has, is_ready, pr}
-use Rattle.kernel_state.specs.Kernel.{is_thread}
-use Rattle.kernel_state.specs.Laws.{RunningIsReady, ReadyIsThread}
+use Rattle.kernel_state.specs.Kernel.{is_thread, thread}
+use Rattle.kernel_state.specs.Laws.{RunningIsReady, ReadyIsThread, WaiterHasWait}
 use Rattle.kernel_state.specs.Sound.{IsEntry}
 use Rattle.kernel_state.specs.declared.kernel.Kernel.{Kernel}
+use Rattle.suspend_lists.specs.Waits.{wait_of}
+use Rattle.kernel_state.proofs.Sound.{thread_of}
+use Rattle.kernel_state.proofs.States.{some_if_waits}
 
 -- what is found in a list stands there
 has-found : (test : ℕ → Bool) (xs : List ℕ) (t : ℕ) → find test xs ≡ Some t → has t xs ≡ true
@@ -36,3 +39,6 @@ pub ready_is_thread : ReadyIsThread
 ready_is_thread k t sound ready =
     let below = All-has (λ u. u < 256) k.ready.order t sound.formed.scheduler.laid_out.in_range ready in
     by_entry k t (is_thread k t) (sound.formed.entries t below) ready
+
+pub waiter_has_wait : WaiterHasWait
+waiter_has_wait k t sound live waits = some_if_waits (thread k t).state (wait_of k.waits t) waits (thread_of [] k t sound live).wait

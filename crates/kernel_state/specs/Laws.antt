@@ -1,5 +1,5 @@
 -- The steps by which a kernel stays sound: one thread changes, a slot changes, a thread is made, an object is removed.
-use Rattle.std.specs.Prelude.{◌≡◌, ◌≢◌, ◌⊎◌, ℕ, ◌<◌, ◌≤◌, true, false, List, [], length, All, Option, Some, slice_set}
+use Rattle.std.specs.Prelude.{◌≡◌, ◌≢◌, ◌⊎◌, ℕ, ◌<◌, ◌≤◌, true, false, List, [], length, All, IsSome, Option, Some, slice_set}
 use Rattle.tx_types.specs.Limits.{module_limit, slot_limit}
 use Rattle.tx_types.specs.declared.kind.Kind.TheVariants.{Thread as ThreadKind}
 use Rattle.tx_types.specs.declared.state.State.TheVariants.{Ready}
@@ -175,3 +175,9 @@ ReadyIsThread = (k : Kernel) (t : ℕ) → IsSound k → is_ready k.ready t ≡ 
 -- a thread of a sound kernel has its facts, a number below 256, and its effective pair in the scheduler
 abbrev pub ThreadIsRight : Type 0
 ThreadIsRight = (k : Kernel) (t : ℕ) → IsSound k → is_thread k t ≡ true → (t < slot_limit) × IsRight [] k t
+
+-- who is in a state of waiting is in a wait
+abbrev pub WaiterHasWait : Type 0
+WaiterHasWait =
+    (k : Kernel) (t : ℕ) → IsSound k → is_thread k t ≡ true → is_waiting (thread k t).state ≡ true
+    → IsSome (wait_of k.waits t)

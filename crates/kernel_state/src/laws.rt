@@ -4,7 +4,7 @@
 ghost use Rattle.std.specs.Prelude.{ℕ, List};
 ghost use Rattle.tx_types.specs.declared.kind.Kind.{Kind};
 ghost use Rattle.kernel_state.specs.Scheduling.{ReadyChangesOne, UnreadyChangesOne, YieldChangesNone, ThresholdChangesOne, PriorityChangesOne};
-ghost use Rattle.kernel_state.specs.Laws.{EffectiveStays, EffectiveFits, SoundFrom, OneThreadChanges, OneStateChanges, OneWaitChanges, OneHartChanges, OneSlotChanges, OneSpotChanges, OneThreadIsMade, OneThreadIsRemoved, RunningIsReady, ReadyIsThread, ThreadIsRight};
+ghost use Rattle.kernel_state.specs.Laws.{EffectiveStays, EffectiveFits, SoundFrom, OneThreadChanges, OneStateChanges, OneWaitChanges, OneHartChanges, OneSlotChanges, OneSpotChanges, OneThreadIsMade, OneThreadIsRemoved, RunningIsReady, ReadyIsThread, ThreadIsRight, WaiterHasWait};
 ghost use Rattle.kernel_state.specs.Row.{AnsweredIsKept, ChangedIsKept, DoneIsKept, WrittenIsKept, UnlessIsKept, FoundIsKept, GivenIsKept, EitherIsKept, RunningCalls};
 ghost use Rattle.kernel_state.specs.WaitLaws.{BeginKeepsSound, WaitEndKeepsSound, TickKeepsServing, BeginRaisesOne, WaitEndRaisesNone, EndRaisesNone, TickRaisesOne, EndKeepsMemory, EndChangesOne};
 ghost use Rattle.kernel_state.specs.ThreadLaws.{ReadyKeepsSound, UnreadyKeepsSound, HeldKeepsSound, FreshKeepsSound, EndKeepsSound, StartKeepsServing, SuspendKeepsServing, EndKeepsServing, ResetKeepsServing};
@@ -129,11 +129,13 @@ pub fn a_change_of_state_keeps_serving()
     a_move_leaves_others_alone();
 }
 
-/// The running thread is ready, each ready number is a thread's, and each thread has its facts.
+/// The running thread is ready, each ready number is a thread's, each thread has its facts, and one
+/// that waits has a wait.
 pub fn who_runs_is_a_thread()
     ensures running_is_ready { RunningIsReady }
     ensures ready_is_thread { ReadyIsThread }
     ensures thread_is_right { ThreadIsRight }
+    ensures waiter_has_wait { WaiterHasWait }
 {}
 
 /// What each part of a row keeps: that bytes change in its ranges alone, that a refusal comes with no

@@ -140,8 +140,10 @@ impl Kernel {
         ensures kernel { self.new ≡ (wait_ended self.old g.old t e value.now).kernel }
         ensures memory { g.new ≡ (wait_ended self.old g.old t e value.now).memory }
         ensures sound { e ≢ End.Gone → IsSound self.new }
+        ensures running { IsRunning self.old.wheel → IsRunning self.new.wheel }
     {
         a_wait_keeps_sound();
+        each_has_a_tick_left();
         let wait = self.leave_wait(t, e);
         put_result(g, self.module_of(t), result_of(&wait, e), value);
         self.put_answer(t, answer_of(&wait, e));
