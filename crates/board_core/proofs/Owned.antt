@@ -7,6 +7,7 @@ use Rattle.tx_types.specs.declared.kind.Kind.TheVariants.{Thread as ThreadKind}
 use Rattle.board_file.specs.declared.board.Action.{Action}
 use Rattle.board_file.specs.declared.board.Action.TheVariants.{Resume}
 use Rattle.event_log.specs.Events.{Step, Irq}
+use Rattle.call_dispatch.specs.Laws.{CallChangesSlotsOnce}
 use Rattle.kernel_state.specs.Kernel.{is_thread, module_of, thread}
 use Rattle.kernel_state.specs.Laws.{ReadyIsThread, RunningIsReady}
 use Rattle.kernel_state.specs.Sound.{IsEntry, IsSound, IsThread}
@@ -36,6 +37,7 @@ use Rattle.board_core.proofs.Running.{running_below, stepped_is, thread-with_har
 pub record Lower : Type 0 where
   pub is_ready : RunningIsReady
   pub is_thread : ReadyIsThread
+  pub slots : CallChangesSlotsOnce
   pub no_slots : HaltEndsSlots
   pub no_grants : HaltEndsGrants
 
@@ -65,7 +67,7 @@ effect_owned lower w t (Calls h) world runs =
     let below = running_below lower.is_ready lower.is_thread w.parts.kernel t world.serves.sound runs in
     let same : module_of (with_hart w.parts.kernel t h) t ≡ module_of w.parts.kernel t =
     ap (λ (u : Thread). u.module) (thread-with_hart w.parts.kernel t h world.serves.sound below) in
-    dispatched_owned w.parts.modules (with_hart w.parts.kernel t h) w.parts.memory t world.owned
+    dispatched_owned lower.slots w.parts.modules (with_hart w.parts.kernel t h) w.parts.memory t world.owned
     (subst (IsStarted w.parts.modules) (sym same) (runner_is_started lower w t world runs))
 effect_owned lower w t (Faults cause) world runs =
     fault_owned lower.no_slots lower.no_grants w.parts.modules w.parts.kernel w.parts.memory (module_of w.parts.kernel t) _ world.serves.sound world.owned

@@ -3,7 +3,7 @@
 //! Their bodies do nothing; a function calls one where its proof needs the law.
 ghost use Rattle.board_core.specs.Laws.{TraceLaw, TotalsAreOfEnded, FrameLaw, RegionsStay, ImagesStay, OwnersStay, RunnerIsStarted, FaultIsKept, CodeIsInNoFrame, DataIsItsModules, FaultSparesOthers, FaultKeepsBytes};
 
-use call_dispatch::laws::a_call_writes_its_result_alone;
+use call_dispatch::laws::{a_call_changes_slots_once, a_call_writes_its_result_alone};
 use flat_ram::{a_number_lies_lowest_byte_first, a_write_changes_its_range_alone};
 use kernel_state::laws::who_runs_is_a_thread;
 use module_manager::laws::{a_halt_ends_its_module, a_halt_spares_other_modules};
@@ -51,6 +51,7 @@ pub fn slots_are_of_started_modules()
     ensures fault { FaultIsKept }
 {
     who_runs_is_a_thread();
+    a_call_changes_slots_once();
     a_halt_ends_its_module();
 }
 

@@ -1,5 +1,5 @@
 -- A call writes its result alone; it changes no register of its caller but a0, and one that is refused nothing else.
-use Rattle.std.proofs.Common.{◌≡◌, ℕ, ◌<◌, ◌≤◌, ◌==◌, List, [], length, Option, None, Some, ap, refl, sym, subst, ⊎_elim}
+use Rattle.std.proofs.Common.{◌≡◌, ℕ, ◌<◌, ◌≤◌, ◌==◌, List, [], length, Option, None, Some, ap, refl, sym, ◌∙◌, subst, ⊎_elim}
 use Rattle.std.specs.List.{slice_index_or}
 use Rattle.std.proofs.lemmas.Bool.{cases_lt}
 use Rattle.std.proofs.lemmas.List.{get_or-set_same, get_or-set_other, set_past}
@@ -19,7 +19,7 @@ use Rattle.kernel_state.specs.declared.thread.Thread.{Thread}
 use Rattle.thread_calls.specs.Rows.{EachRowIsOne}
 use Rattle.call_dispatch.specs.Caller.{CallChangesA0Alone, ChangesA0Alone}
 use Rattle.call_dispatch.specs.Ecall.{dispatched, with_answer}
-use Rattle.call_dispatch.specs.Laws.{CallWritesItsResultAlone, RefusalChangesNothing, RefusedCallChangesA0Alone, NoRowChangesA0Alone}
+use Rattle.call_dispatch.specs.Laws.{CallWritesItsResultAlone, RefusalChangesNothing, RefusedCallChangesA0Alone, NoRowChangesA0Alone, CallChangesSlotsOnce}
 use Rattle.call_dispatch.specs.Rows.{call_result, call_row, row_asked, row_writes, rows}
 use Rattle.call_dispatch.proofs.Numbers.{find_holds}
 
@@ -90,3 +90,19 @@ call_changes_a0_alone lower k g t sound runs =
     let o = call_row (number_asked h) k g t (arguments h) in
     let keeps = (call_is_kept lower (number_asked h) k g t (arguments h)).caller (lower.calls k t sound runs) in
     subst (λ (was : HartState). ChangesA0Alone was (thread (with_answer o.change.kernel t o.answer) t).hart) keeps (answer_is_put o.change.kernel t o.answer)
+
+-- an answer changes no slot
+answer-objects : (k : Kernel) (t : ℕ) (answer : Answer) → (with_answer k t answer).objects ≡ k.objects
+unfolding with_answer
+answer-objects k t (Code c) = refl
+answer-objects k t (Value v) = refl
+answer-objects k t Waits = refl
+answer-objects k t Ended = refl
+
+pub call_changes_slots_once : Lower → CallChangesSlotsOnce
+unfolding dispatched
+call_changes_slots_once lower k g t =
+    let h = (thread k t).hart in
+    let o = call_row (number_asked h) k g t (arguments h) in
+    let kept = (call_is_kept lower (number_asked h) k g t (arguments h)).slots in
+    record { call = kept.call; slots = answer-objects o.change.kernel t o.answer ∙ kept.slots; may = kept.may }

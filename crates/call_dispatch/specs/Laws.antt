@@ -6,7 +6,7 @@ use Rattle.kernel_state.specs.Kernel.{thread}
 use Rattle.kernel_state.specs.Outcome.{answered}
 use Rattle.kernel_state.specs.Range.{WritesAlone}
 use Rattle.kernel_state.specs.Registers.{number_asked, with_a0}
-use Rattle.kernel_state.specs.Row.{Row}
+use Rattle.kernel_state.specs.Row.{KeepsSlots, Row}
 use Rattle.kernel_state.specs.declared.answer.Answer.TheVariants.{Code}
 use Rattle.kernel_state.specs.declared.kernel.Kernel.{Kernel}
 use Rattle.call_dispatch.specs.Ecall.{dispatched}
@@ -40,3 +40,8 @@ abbrev pub NoRowChangesA0Alone : Type 0
 NoRowChangesA0Alone =
     (k : Kernel) (g : Memory) (t : ℕ) → row_asked (number_asked (thread k t).hart) ≡ None
     → dispatched k g t ≡ answered (with_a0 k t feature_not_enabled) g feature_not_enabled
+
+-- the slots change by one call of their table at most, made for the caller's module
+abbrev pub CallChangesSlotsOnce : Type 0
+CallChangesSlotsOnce =
+    (k : Kernel) (g : Memory) (t : ℕ) → KeepsSlots k t (dispatched k g t).change.kernel

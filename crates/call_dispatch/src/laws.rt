@@ -2,7 +2,7 @@
 //!
 //! Their bodies do nothing; a function calls one where its proof needs the law.
 ghost use Rattle.call_dispatch.specs.Caller.{CallChangesA0Alone};
-ghost use Rattle.call_dispatch.specs.Laws.{NumberNamesItsRow, RowHasItsNumber, CallWritesItsResultAlone, RefusalChangesNothing, RefusedCallChangesA0Alone, NoRowChangesA0Alone};
+ghost use Rattle.call_dispatch.specs.Laws.{NumberNamesItsRow, RowHasItsNumber, CallWritesItsResultAlone, RefusalChangesNothing, RefusedCallChangesA0Alone, NoRowChangesA0Alone, CallChangesSlotsOnce};
 
 use kernel_state::laws::a_row_is_made_of_parts;
 use thread_calls::laws::each_row_is_one;
@@ -36,6 +36,15 @@ pub fn a_refused_call_changes_its_a0_alone()
 /// A call changes no register of its caller but a0, whatever it asks for.
 pub fn a_call_changes_its_a0_alone()
     ensures { CallChangesA0Alone }
+{
+    a_row_is_made_of_parts();
+    each_row_is_one();
+}
+
+/// A call changes object slots by one call of their table at most, which is made for the caller's
+/// module, whatever it asks for.
+pub fn a_call_changes_slots_once()
+    ensures { CallChangesSlotsOnce }
 {
     a_row_is_made_of_parts();
     each_row_is_one();

@@ -1,9 +1,11 @@
 -- A row of the table of services: its number in a7, what it does, and where it may write; and what every row keeps.
-use Rattle.std.specs.Prelude.{◌≡◌, ◌≢◌, ℕ, ◌*◌, ◌<◌, ◌==◌, true, Bool, List, [], ◌∷◌, length, Option, None, Some, Result, find, if◌then◌else◌}
+use Rattle.std.specs.Prelude.{◌≡◌, ◌≢◌, ℕ, ◌*◌, ◌<◌, ◌==◌, true, Bool, List, [], ◌∷◌, length, Option, None, Some, Result, find, if◌then◌else◌, ⊤}
 use Rattle.tx_types.specs.Code.{success, suspend_lifted, feature_not_enabled}
 use Rattle.tx_types.specs.State.{state_number}
 use Rattle.call_arguments.specs.Pointers.{pointer_refusal}
 use Rattle.call_arguments.specs.Words.{with_words}
+use Rattle.object_grants.specs.Laws.{Call, Allocate, Deallocate, MakeLive, MakeEmpty, Grant, MayCall, called as slots_called}
+use Rattle.object_grants.specs.declared.slot.Slot.{Slot}
 use Rattle.region_guard.specs.Memory.{Memory, IsSound as IsSoundMemory}
 use Rattle.region_guard.specs.declared.region.Access.TheVariants.{Store}
 use Rattle.kernel_state.specs.Change.{Change, quiet}
@@ -38,15 +40,42 @@ pub record IsCaller (k : Kernel) (by : ℕ) : Type 0 where
 abbrev pub KeepsCaller : Kernel → ℕ → Kernel → Type 0
 KeepsCaller k by now = IsCaller k by → (thread now by).hart ≡ (thread k by).hart
 
+-- a call of the table of slots that a row may make for module m, where it is made for a module
+abbrev pub IsCallFor : ℕ → Call → Type 0
+IsCallFor m (Allocate n kind) = n ≡ m
+IsCallFor m (Deallocate n r) = n ≡ m
+IsCallFor m (Grant n o) = n ≡ m
+IsCallFor m (MakeLive o name) = ⊤
+IsCallFor m (MakeEmpty o) = ⊤
+IsCallFor m _ = ⊥
+
+-- one call of the table at most
+abbrev pub slots_after : List Slot → Option Call → List Slot
+slots_after slots None = slots
+slots_after slots (Some c) = slots_called slots c
+
+abbrev pub MayMake : ℕ → List Slot → Option Call → Type 0
+MayMake m slots None = ⊤
+MayMake m slots (Some c) = IsCallFor m c × MayCall slots c
+
+-- the slots are as they were, or as one call of their table leaves them, made for the caller's
+-- module
+pub record KeepsSlots (k : Kernel) (by : ℕ) (now : Kernel) : Type 0 where
+  pub call : Option Call
+  pub slots : now.objects ≡ slots_after k.objects call
+  pub may : MayMake (module_of k by) k.objects call
+
 -- an answer that isn't a refusal: any but a status that is neither SUCCESS nor SUSPEND_LIFTED
 abbrev pub IsNoRefusal : Answer → Type 0
 IsNoRefusal answer = (c : ℕ) → answer ≡ Code c → c ≢ success → c ≢ suspend_lifted → ⊥
 
--- what the outcome of a row keeps: bytes outside of its ranges, all where it is a refusal, and the caller's registers
+-- what the outcome of a row keeps: bytes outside of its ranges, all where it is a refusal, the
+-- caller's registers, and the slots but for one call
 pub record IsKept (ranges : List Range) (k : Kernel) (g : Memory) (by : ℕ) (o : Outcome) : Type 0 where
   pub alone : IsSoundMemory g → WritesAlone ranges g o.change.memory
   pub refusal : (c : ℕ) → o.answer ≡ Code c → c ≢ success → c ≢ suspend_lifted → o ≡ answered k g c
   pub caller : KeepsCaller k by o.change.kernel
+  pub slots : KeepsSlots k by o.change.kernel
 
 abbrev pub IsRow : Row → Type 0
 IsRow r =
@@ -64,18 +93,21 @@ AnsweredIsKept = (r : List Range) (k : Kernel) (g : Memory) (by c : ℕ) → IsK
 abbrev pub ChangedIsKept : Type 0
 ChangedIsKept =
     (r : List Range) (k : Kernel) (g : Memory) (by : ℕ) (now : Change) (answer : Answer) → IsNoRefusal answer
-    → now.memory ≡ g → KeepsCaller k by now.kernel → IsKept r k g by (answering now answer)
+    → now.memory ≡ g → KeepsCaller k by now.kernel → KeepsSlots k by now.kernel
+    → IsKept r k g by (answering now answer)
 
 abbrev pub DoneIsKept : Type 0
 DoneIsKept =
     (r : List Range) (k : Kernel) (g : Memory) (by : ℕ) (now : Change)
-    → now.memory ≡ g → KeepsCaller k by now.kernel → IsKept r k g by (done now)
+    → now.memory ≡ g → KeepsCaller k by now.kernel → KeepsSlots k by now.kernel
+    → IsKept r k g by (done now)
 
 -- a change of the kernel, and words that are written to a pointer that isn't refused
 abbrev pub WrittenIsKept : Type 0
 WrittenIsKept =
     (k : Kernel) (g : Memory) (by : ℕ) (now : Kernel) (m x : ℕ) (ws : List ℕ) → 0 < length ws
-    → pointer_refusal g m Store x (4 * length ws) ≡ None → KeepsCaller k by now
+    → pointer_refusal g m Store x (4 * length ws) ≡ None
+    → KeepsCaller k by now → KeepsSlots k by now
     → IsKept (allowed g m (range x (4 * length ws) ∷ [])) k g by (done (quiet now (with_words g x ws)))
 
 -- what comes after a test

@@ -139,7 +139,8 @@ pub fn who_runs_is_a_thread()
 {}
 
 /// What each part of a row keeps: that bytes change in its ranges alone, that a refusal comes with no
-/// change, and that the caller has its registers afterwards.
+/// change, that the caller has its registers afterwards, and that slots change by one call of their
+/// table at most.
 pub fn a_row_is_made_of_parts()
     ensures calls { RunningCalls }
     ensures answered { AnsweredIsKept }

@@ -1,5 +1,6 @@
--- Each row writes its result alone, refuses with no change, and keeps the registers of the caller.
-use Rattle.std.proofs.Common.{◌≡◌, ℕ, ◌==◌, false, refl, not, nat_le, nat_lt, List, [], ◌∷◌, position, All, lit<}
+-- Each row writes its result alone, refuses with no change, keeps the registers of the caller, and changes slots by one call
+-- of their table at most.
+use Rattle.std.proofs.Common.{◌≡◌, ℕ, ◌==◌, false, refl, not, nat_le, nat_lt, List, [], ◌∷◌, Some, position, All, lit<}
 use Rattle.std.proofs.lemmas.Bool.{cond_both}
 use Rattle.std.proofs.lemmas.List.Elements.{All-cons, All-nil}
 use Rattle.tx_types.specs.Code.{success, ptr_error, option_error, no_instance, no_memory, thread_error, priority_error, delete_error, resume_error, suspend_error, thresh_error, suspend_lifted, not_done}
@@ -8,6 +9,7 @@ use Rattle.tx_types.specs.declared.kind.Kind.{Kind}
 use Rattle.tx_types.specs.declared.kind.Kind.TheVariants.{Thread}
 use Rattle.tx_types.specs.declared.state.State.TheVariants.{Completed, Terminated, Suspended}
 use Rattle.call_arguments.specs.Names.{name_at}
+use Rattle.object_grants.specs.Laws.{Allocate, Deallocate, Grant}
 use Rattle.object_grants.specs.Slot.{is_usable, is_own_empty, has_name}
 use Rattle.object_grants.specs.Table.{ref_of, named as names_slot, after_deallocate}
 use Rattle.ready_maps.specs.Moves.{yielded}
@@ -29,6 +31,7 @@ use Rattle.thread_calls.specs.ObjectRows.{allocation, granting, object_allocate_
 use Rattle.thread_calls.specs.Rows.{EachRowIsOne, row, row_to, rows}
 use Rattle.thread_calls.specs.ThreadRows.{end_answer, creation, resumption, starting, threshold_change, priority_change, slice_change, thread_create_row, thread_delete_row, thread_terminate_row, thread_suspend_row, thread_resume_row, thread_relinquish_row, thread_identify_row, thread_info_get_row, thread_preemption_change_row, thread_priority_change_row, thread_time_slice_change_row, thread_reset_row, thread_complete_row}
 use Rattle.thread_calls.proofs.Callers.{hart_kept, started_kept, suspended_kept, ended_kept, reset_kept, created_kept, created_memory}
+use Rattle.thread_calls.proofs.Slots.{slots_stay, suspended_slots, ended_slots, created_slots, removed_slots}
 
 -- the laws of the layer below
 pub record Parts : Type 0 where
@@ -70,14 +73,16 @@ module _ (parts : Parts) where
       parts.found_kind r k g by option_error (kind_of (arg a 0)) _ (λ kind at.
       parts.unless r k g by (caller_refusal k g by Store (arg a 1) 4) _ (λ free.
       parts.found r k g by no_memory (position is_usable k.objects) _ (λ o at.
-      parts.written k g by _ m (arg a 1) (_ ∷ []) (lit< tt) free (λ calls. refl))))
+      parts.written k g by _ m (arg a 1) (_ ∷ []) (lit< tt) free (λ calls. refl)
+      (record { call = Some (Allocate m kind); slots = refl; may = (refl, tt) }))))
 
   object_deallocate_is_row : IsRow (row 0x02 object_deallocate_row)
   unfolding object_deallocate_row
   object_deallocate_is_row k g by a =
       let m = module_of k by in
       parts.either [] k g by (names_slot k.objects (arg a 0) (is_own_empty m)) _ _
-      (parts.done [] k g by (quiet (record k { objects = after_deallocate k.objects m (arg a 0) }) g) refl (λ calls. refl))
+      (parts.done [] k g by (quiet (record k { objects = after_deallocate k.objects m (arg a 0) }) g) refl (λ calls. refl)
+      (record { call = Some (Deallocate m (arg a 0)); slots = refl; may = (refl, tt) }))
       (parts.answered [] k g by ptr_error)
 
   object_pointer_get_is_row : IsRow (row_to 2 4 0x03 object_pointer_get_row)
@@ -89,7 +94,8 @@ module _ (parts : Parts) where
       parts.given_name r k g by (name_at g m (arg a 1)) _ (λ name.
       parts.unless r k g by (caller_refusal k g by Store (arg a 2) 4) _ (λ free.
       parts.found r k g by no_instance (position (has_name kind name) k.objects) _ (λ o at.
-      parts.written k g by _ m (arg a 2) (_ ∷ []) (lit< tt) free (λ calls. refl)))))
+      parts.written k g by _ m (arg a 2) (_ ∷ []) (lit< tt) free (λ calls. refl)
+      (record { call = Some (Grant m o); slots = refl; may = (refl, tt) })))))
 
   thread_create_is_row : IsRow (row 0x10 thread_create_row)
   unfolding thread_create_row creation
@@ -98,7 +104,8 @@ module _ (parts : Parts) where
       parts.given_name [] k g by (name_at g (module_of k by) (arg a 1)) _ (λ name.
       parts.unless [] k g by (caller_refusal k g by Load (arg a 2) 32) _ (λ free.
       parts.unless [] k g by (block_refusal k g by (block_at g (arg a 2))) _ (λ right.
-      parts.done [] k g by (created k g by o name (block_at g (arg a 2))) (created_memory k g by o name (block_at g (arg a 2))) (created_kept k g by (arg a 0) o name (block_at g (arg a 2)) at)))))
+      parts.done [] k g by (created k g by o name (block_at g (arg a 2))) (created_memory k g by o name (block_at g (arg a 2))) (created_kept k g by (arg a 0) o name (block_at g (arg a 2)) at)
+      (created_slots k g by (arg a 0) o name (block_at g (arg a 2)) at)))))
 
   thread_delete_is_row : IsRow (row 0x11 thread_delete_row)
   unfolding thread_delete_row
@@ -106,37 +113,40 @@ module _ (parts : Parts) where
       parts.found [] k g by thread_error (named k by (arg a 0) Thread) _ (λ t at.
       parts.unless [] k g by (owner_refusal k by t) _ (λ own.
       parts.unless [] k g by (refused (not (is_over (thread k t).state)) delete_error) _ (λ over.
-      parts.done [] k g by (quiet (removed_thread k t) g) refl (λ calls. refl))))
+      parts.done [] k g by (quiet (removed_thread k t) g) refl (λ calls. refl) (removed_slots k by (arg a 0) t at))))
 
   thread_terminate_is_row : IsRow (row 0x12 thread_terminate_row)
   unfolding thread_terminate_row
   thread_terminate_is_row k g by a =
       parts.found [] k g by thread_error (named k by (arg a 0) Thread) _ (λ t at.
-      parts.changed [] k g by (ended k g t Terminated) (end_answer by t) (end_is_no_refusal by t) (parts.end_memory k g t Terminated) (λ calls. ended_kept parts.end_one k g by t Terminated))
+      parts.changed [] k g by (ended k g t Terminated) (end_answer by t) (end_is_no_refusal by t) (parts.end_memory k g t Terminated) (λ calls. ended_kept parts.end_one k g by t Terminated)
+      (ended_slots k g by t Terminated))
 
   thread_suspend_is_row : IsRow (row 0x13 thread_suspend_row)
   unfolding thread_suspend_row
   thread_suspend_is_row k g by a =
       parts.found [] k g by thread_error (named k by (arg a 0) Thread) _ (λ t at.
       parts.unless [] k g by (refused (is_over (thread k t).state) suspend_error) _ (λ runs.
-      parts.done [] k g by (suspended k g t) refl (λ calls. suspended_kept k g by t)))
+      parts.done [] k g by (suspended k g t) refl (λ calls. suspended_kept k g by t) (suspended_slots k g by t)))
 
   thread_resume_is_row : IsRow (row 0x14 thread_resume_row)
   unfolding thread_resume_row resumption starting
   thread_resume_is_row k g by a =
       parts.found [] k g by thread_error (named k by (arg a 0) Thread) _ (λ t at.
       parts.either [] k g by (thread k t).held _ _
-      (parts.changed [] k g by (quiet (with_held k t false) g) (Code suspend_lifted) lifted_is_no_refusal refl (λ calls. hart_kept k by t (record (thread k t) { held = false }) refl))
+      (parts.changed [] k g by (quiet (with_held k t false) g) (Code suspend_lifted) lifted_is_no_refusal refl (λ calls. hart_kept k by t (record (thread k t) { held = false }) refl)
+      (slots_stay k _ by refl))
       (parts.unless [] k g by (refused (not (is_state (thread k t).state Suspended)) resume_error) _ (λ rests.
-      parts.done [] k g by (started k g t) refl (λ calls. started_kept k g by t))))
+      parts.done [] k g by (started k g t) refl (λ calls. started_kept k g by t) (slots_stay k _ by refl))))
 
   thread_relinquish_is_row : IsRow (row 0x16 thread_relinquish_row)
   unfolding thread_relinquish_row
-  thread_relinquish_is_row k g by a = parts.done [] k g by (quiet (record k { ready = yielded k.ready }) g) refl (λ calls. refl)
+  thread_relinquish_is_row k g by a = parts.done [] k g by (quiet (record k { ready = yielded k.ready }) g) refl (λ calls. refl) (slots_stay k _ by refl)
 
   thread_identify_is_row : IsRow (row 0x17 thread_identify_row)
   unfolding thread_identify_row
   thread_identify_is_row k g by a = parts.changed [] k g by (quiet k g) (Value (ref_of k.objects by)) (value_is_no_refusal (ref_of k.objects by)) refl (λ calls. refl)
+      (slots_stay k _ by refl)
 
   thread_info_get_is_row : IsRow (row_to 1 32 0x18 thread_info_get_row)
   unfolding thread_info_get_row
@@ -145,7 +155,7 @@ module _ (parts : Parts) where
       let r = allowed g m (range (arg a 1) 32 ∷ []) in
       parts.found r k g by thread_error (named k by (arg a 0) Thread) _ (λ t at.
       parts.unless r k g by (caller_refusal k g by Store (arg a 1) 32) _ (λ free.
-      parts.written k g by k m (arg a 1) (thread_info k t) (lit< tt) free (λ calls. refl)))
+      parts.written k g by k m (arg a 1) (thread_info k t) (lit< tt) free (λ calls. refl) (slots_stay k _ by refl)))
 
   thread_preemption_change_is_row : IsRow (row_to 2 4 0x19 thread_preemption_change_row)
   unfolding thread_preemption_change_row threshold_change
@@ -155,7 +165,8 @@ module _ (parts : Parts) where
       parts.found r k g by thread_error (named k by (arg a 0) Thread) _ (λ t at.
       parts.unless r k g by (caller_refusal k g by Store (arg a 2) 4) _ (λ free.
       parts.unless r k g by (refused (nat_lt (thread k t).priority (arg a 1)) thresh_error) _ (λ right.
-      parts.written k g by (with_user_threshold k t (arg a 1)) m (arg a 2) ((thread k t).threshold ∷ []) (lit< tt) free (λ calls. hart_kept k by t _ refl))))
+      parts.written k g by (with_user_threshold k t (arg a 1)) m (arg a 2) ((thread k t).threshold ∷ []) (lit< tt) free (λ calls. hart_kept k by t _ refl)
+      (slots_stay k _ by refl))))
 
   thread_priority_change_is_row : IsRow (row_to 2 4 0x1A thread_priority_change_row)
   unfolding thread_priority_change_row priority_change
@@ -165,7 +176,8 @@ module _ (parts : Parts) where
       parts.found r k g by thread_error (named k by (arg a 0) Thread) _ (λ t at.
       parts.unless r k g by (caller_refusal k g by Store (arg a 2) 4) _ (λ free.
       parts.unless r k g by (refused (nat_le k.ready.levels (arg a 1)) priority_error) _ (λ right.
-      parts.written k g by (with_user_priority k t (arg a 1)) m (arg a 2) ((thread k t).priority ∷ []) (lit< tt) free (λ calls. hart_kept k by t _ refl))))
+      parts.written k g by (with_user_priority k t (arg a 1)) m (arg a 2) ((thread k t).priority ∷ []) (lit< tt) free (λ calls. hart_kept k by t _ refl)
+      (slots_stay k _ by refl))))
 
   thread_time_slice_change_is_row : IsRow (row_to 2 4 0x1B thread_time_slice_change_row)
   unfolding thread_time_slice_change_row slice_change
@@ -174,18 +186,20 @@ module _ (parts : Parts) where
       let r = allowed g m (range (arg a 2) 4 ∷ []) in
       parts.found r k g by thread_error (named k by (arg a 0) Thread) _ (λ t at.
       parts.unless r k g by (caller_refusal k g by Store (arg a 2) 4) _ (λ free.
-      parts.written k g by (with_slice k t (arg a 1)) m (arg a 2) ((thread k t).slice ∷ []) (lit< tt) free (λ calls. hart_kept k by t _ refl)))
+      parts.written k g by (with_slice k t (arg a 1)) m (arg a 2) ((thread k t).slice ∷ []) (lit< tt) free (λ calls. hart_kept k by t _ refl)
+      (slots_stay k _ by refl)))
 
   thread_reset_is_row : IsRow (row 0x1D thread_reset_row)
   unfolding thread_reset_row
   thread_reset_is_row k g by a =
       parts.found [] k g by thread_error (named k by (arg a 0) Thread) _ (λ t at.
       parts.unless [] k g by (refused (not (is_over (thread k t).state)) not_done) _ (λ over.
-      parts.done [] k g by (reset k g t) refl (reset_kept k g by t not_done over)))
+      parts.done [] k g by (reset k g t) refl (reset_kept k g by t not_done over) (slots_stay k _ by refl)))
 
   thread_complete_is_row : IsRow (row 0x1F thread_complete_row)
   unfolding thread_complete_row
   thread_complete_is_row k g by a = parts.changed [] k g by (ended k g by Completed) Ended ended_is_no_refusal (parts.end_memory k g by Completed) (λ calls. ended_kept parts.end_one k g by by Completed)
+      (ended_slots k g by by Completed)
 
 -- what holds of each element, one after another
 abbrev EachOf : (Row → Type 0) → List Row → Type 0

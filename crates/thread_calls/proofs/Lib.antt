@@ -3,3 +3,4 @@ pub mod Created
 pub mod EachRow
 pub mod NumberChanges
 pub mod SlotChanges
+pub mod Slots

@@ -32,7 +32,7 @@ pub fn a_change_of_slots_keeps_sound()
 }
 
 /// What each service of this crate keeps: that it changes bytes in its ranges alone, refuses with no
-/// change, and leaves its caller's registers.
+/// change, leaves its caller's registers, and changes slots by one call of their table at most.
 pub fn each_row_is_one()
     ensures { EachRowIsOne }
 {

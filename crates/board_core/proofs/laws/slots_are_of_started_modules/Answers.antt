@@ -6,6 +6,7 @@ returns c =
     let lower : Lower = record {
       is_ready = c.who_runs_is_a_thread.ensures.running_is_ready;
       is_thread = c.who_runs_is_a_thread.ensures.ready_is_thread;
+      slots = c.a_call_changes_slots_once.ensures;
       no_slots = c.a_halt_ends_its_module.ensures.slots;
       no_grants = c.a_halt_ends_its_module.ensures.grants;
     } in
