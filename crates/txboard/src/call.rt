@@ -8,7 +8,7 @@ ghost use Rattle.board_io.specs.Status.{number_of};
 ghost use Rattle.board_run.specs.Call.{call};
 ghost use Rattle.txboard.specs.Call.{AnswersWords, ended, is_live};
 
-use crate::failure::tell_end;
+use board_host::tell_end;
 use board_live::board_live;
 use board_run::{Files, OpenGate, Sink, Status, board_still};
 use std::alloc::Global;

@@ -1,6 +1,6 @@
 use Rattle.std.proofs.Common.{length}
-use Rattle.txboard.proofs.HostOut.{IsUnderWay}
-use Rattle.txboard.proofs.host_out.write_whole.Given as goal
+use Rattle.board_host.proofs.Pieces.{IsUnderWay}
+use Rattle.board_host.proofs.host_out.write_whole.Given as goal
 
 -- what is gone from the rest was appended
 abbrev pub invariant-loop-rest : goal.invariant-loop-rest

@@ -3,8 +3,8 @@ use Rattle.std.proofs.Common.{◌≡◌, ℕ, Result, Ok, Err, IfOk, IsErrOf, ap
 use Rattle.board_io.specs.Faults.{Rose}
 use Rattle.board_io.specs.declared.files.ReadErr.{ReadErr}
 use Rattle.board_io.specs.declared.files.ReadErr.TheVariants.{Failed, Missing}
-use Rattle.txboard.specs.HostFiles.{count_read}
-use Rattle.txboard.proofs.host_files.HostFilesFiles.TheImpl.Goals as goal
+use Rattle.board_host.specs.Reads.{count_read}
+use Rattle.board_host.proofs.host_files.HostFilesFiles.TheImpl.Goals as goal
 
 nothing_told : {T E : Type 0} (r : Result T E) → IfOk r (λ _. Unit {0})
 nothing_told (Ok v) = tt

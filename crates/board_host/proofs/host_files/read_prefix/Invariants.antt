@@ -1,6 +1,6 @@
 use Rattle.std.proofs.Common.{◌-◌, ◌≤◌, vec_len}
 use Rattle.std.specs.Io.KnownBytes.{Consumes}
-use Rattle.txboard.proofs.host_files.read_prefix.Given as goal
+use Rattle.board_host.proofs.host_files.read_prefix.Given as goal
 
 -- what was read is what the reader gave
 abbrev pub invariant-loop-chunk : goal.invariant-loop-chunk

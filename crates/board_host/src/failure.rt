@@ -4,7 +4,7 @@
 //! Nothing of it goes to the output, and a line that can't be written is left out.
 ghost use Rattle.std.specs.Prelude.{◌≡◌, MatchResult, IsOkAnd, IsErrAnd};
 
-use board_run::{ReadErr, Status};
+use board_io::{ReadErr, Status};
 use std::io;
 use std::io::Eprint;
 
@@ -16,7 +16,7 @@ pub struct Failure {
 }
 
 /// Says which file wasn't read, if a host's error is why, and passes the outcome on.
-pub fn told_read<T: Drop, E: Eprint>(
+pub(crate) fn told_read<T: Drop, E: Eprint>(
     host: &E,
     name: &str,
     outcome: Result<T, Failure>,

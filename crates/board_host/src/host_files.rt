@@ -5,10 +5,10 @@
 ghost use Rattle.std.specs.Prelude.{◌≡◌, ◌≢◌, ◌+◌, ◌^◌, ◌<◌, ◌≤◌, None, take, vec_len, IfOk, IfErr, IfSome};
 ghost use Rattle.std.specs.Io.KnownBytes.{Consumes};
 ghost use Rattle.std.specs.IoError.{error_kind};
-ghost use Rattle.txboard.specs.HostFiles.{count_read};
+ghost use Rattle.board_host.specs.Reads.{count_read};
 
 use crate::failure::{Failure, told_read};
-use board_run::{Files, ReadErr};
+use board_io::{Files, ReadErr};
 use std::alloc::Global;
 use std::io::{Eprint, ErrorKind, Read};
 use std::{fs, io};
@@ -101,7 +101,7 @@ const NO_MEMORY: Failure = Failure {
 
 /// The first bytes of a reader, at most the given number. Each turn takes a byte at least, or is
 /// the last.
-fn read_prefix<F: Read>(alloc: Global, reader: &mut F, most: usize) -> Result<Vec<u8>, Failure>
+pub fn read_prefix<F: Read>(alloc: Global, reader: &mut F, most: usize) -> Result<Vec<u8>, Failure>
     requires { most < 2 ^ 32 }
     ensures bound { IfOk result (λ v. vec_len v ≤ most) }
     ensures prefix { IfOk result (λ v.
@@ -124,6 +124,3 @@ fn read_prefix<F: Read>(alloc: Global, reader: &mut F, most: usize) -> Result<Ve
     }
     Ok(bytes)
 }
-
-#[cfg(test)]
-mod tests;

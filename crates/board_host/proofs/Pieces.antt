@@ -6,7 +6,7 @@ use Rattle.std.proofs.Math.Seq.{take-append_seam}
 use Rattle.std.proofs.KnownBytes.{Appends-trans, Appends-kept}
 use Rattle.std.specs.Io.KnownBytes.{Appends, Keeps}
 use Rattle.board_io.specs.Sink.{AppendsPrefix}
-use Rattle.txboard.specs.HostOut.{AppendsPiece}
+use Rattle.board_host.specs.Writes.{AppendsPiece}
 
 -- some prefix of the piece was appended, and this rest of it was not
 pub record IsUnderWay (old new : Option (List ℕ)) (piece rest : List ℕ) : Type 0 where

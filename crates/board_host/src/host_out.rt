@@ -4,9 +4,9 @@
 //! to it.
 ghost use Rattle.std.specs.Prelude.{◌≡◌, ◌<◌, ◌≤◌, [], length, None, IsOk, IfOk};
 ghost use Rattle.std.specs.Io.KnownBytes.{WriteAppends};
-ghost use Rattle.txboard.specs.HostOut.{AppendsPiece, count_written};
+ghost use Rattle.board_host.specs.Writes.{AppendsPiece, count_written};
 
-use board_run::{Sink, WriteErr};
+use board_io::{Sink, WriteErr};
 use std::io::Write;
 
 /// A writer of the host. Each fault of writing is counted.
@@ -46,7 +46,7 @@ impl<W: Write + Drop> Sink for HostOut<W> {
 }
 
 /// Writes a piece whole, or a prefix of it where a write fails.
-#[tactic(auto, using(crate::proofs::HostOut::pieces))]
+#[tactic(auto, using(crate::proofs::Pieces::pieces))]
 fn write_whole<W: Write>(out: &mut W, piece: &[u8]) -> Result<(), WriteErr>
     ensures wrote { AppendsPiece (W.contents out.old) (W.contents out.new) piece.now result }
     ensures nothing { piece.now ≡ [] → IsOk result }
@@ -70,6 +70,3 @@ fn write_some<W: Write>(out: &mut W, piece: &[u8]) -> Result<usize, WriteErr>
         Ok(count) => Ok(count),
     }
 }
-
-#[cfg(test)]
-mod tests;

@@ -4,7 +4,7 @@
 //! words at all. What the words ask for isn't read here.
 ghost use Rattle.std.specs.Prelude.{◌≡◌, IfErr};
 
-use board_run::Status;
+use board_io::Status;
 use std::alloc::Global;
 use std::env::FillError;
 use std::rt::Env;
@@ -46,6 +46,3 @@ pub fn words_of(host: &impl Env, alloc: Global) -> Result<Vec<String>, Status>
         Err(_) => Ok(words),
     }
 }
-
-#[cfg(test)]
-mod tests;
