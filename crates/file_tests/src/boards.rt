@@ -296,6 +296,29 @@ fn answer(read: &Result<Board, BoardErr>) -> &str {
     }
 }
 
+/// The texts before a row, the rows, and the text after a row.
+enum Table {
+    Of(&'static [&'static str], &'static [(&'static str, &'static str)], &'static str),
+}
+
+const TABLES: [Table; 7] = [
+    Table::Of(&[], &NUMBERS, MODULE),
+    Table::Of(&[TOP], &LISTS, ""),
+    Table::Of(&[TOP], &OTHERS, MODULE),
+    Table::Of(&[TOP, MODULE, "[[module]]\n"], &MODULES, OTHER),
+    Table::Of(
+        &[TOP, MODULE, DEVICE, "script = []\n[[device]]\n"],
+        &DEVICES,
+        "",
+    ),
+    Table::Of(&[TOP, MODULE, DEVICE], &SCRIPTS, ""),
+    Table::Of(
+        &[TOP, MODULE, OTHER, "[[show]]\nmodule = \"one\"\n"],
+        &SHOWS,
+        "",
+    ),
+];
+
 /// Each row's text between two others is answered as the row says.
 fn answers(
     rt: &impl Abort,
@@ -312,64 +335,32 @@ fn answers(
     Ok(())
 }
 
-#[test]
-fn numbers(rt: HostRuntime) -> Result<(), Fail> {
-    answers(&rt, rt.alloc(), "", &NUMBERS, MODULE)
+/// So is each row of a table.
+fn answers_all(rt: &impl Abort, alloc: Global, table: &Table) -> Result<(), Fail> {
+    let Table::Of(parts, rows, after) = *table;
+    let before = joined(alloc, parts)?;
+    answers(rt, alloc, before.as_str(), rows, after)
 }
 
 #[test]
-fn lists(rt: HostRuntime) -> Result<(), Fail> {
-    answers(&rt, rt.alloc(), TOP, &LISTS, "")
-}
-
-#[test]
-fn others(rt: HostRuntime) -> Result<(), Fail> {
-    answers(&rt, rt.alloc(), TOP, &OTHERS, MODULE)
-}
-
-#[test]
-fn fields_of_a_module(rt: HostRuntime) -> Result<(), Fail> {
-    let before = joined(rt.alloc(), &[TOP, MODULE, "[[module]]\n"])?;
-    answers(&rt, rt.alloc(), before.as_str(), &MODULES, OTHER)
-}
-
-#[test]
-fn fields_of_a_device(rt: HostRuntime) -> Result<(), Fail> {
-    let before = joined(
-        rt.alloc(),
-        &[TOP, MODULE, DEVICE, "script = []\n[[device]]\n"],
-    )?;
-    answers(&rt, rt.alloc(), before.as_str(), &DEVICES, "")
-}
-
-#[test]
-fn scripts(rt: HostRuntime) -> Result<(), Fail> {
-    let before = joined(rt.alloc(), &[TOP, MODULE, DEVICE])?;
-    answers(&rt, rt.alloc(), before.as_str(), &SCRIPTS, "")
-}
-
-#[test]
-fn fields_of_a_show(rt: HostRuntime) -> Result<(), Fail> {
-    let before = joined(
-        rt.alloc(),
-        &[TOP, MODULE, OTHER, "[[show]]\nmodule = \"one\"\n"],
-    )?;
-    answers(&rt, rt.alloc(), before.as_str(), &SHOWS, "")
-}
-
-#[test]
-fn bytes_that_are_no_text(rt: HostRuntime) -> Result<(), Fail> {
-    let read = read_board(rt.alloc(), &[0x61, 0xFF]);
-    assert_eq!(rt; answer(&read), "not toml");
+fn the_first_wrong_field_is_named(rt: HostRuntime) -> Result<(), Fail> {
+    for table in &TABLES {
+        answers_all(&rt, rt.alloc(), table)?;
+    }
     Ok(())
+}
+
+#[test]
+fn bytes_that_are_no_text(rt: HostRuntime) {
+    let read = read_board(rt.alloc(), &[0x61, 0xFF]);
+    assert!(rt; answer(&read) == "not toml");
 }
 
 #[test]
 fn paths_give_their_text_back(rt: HostRuntime) -> Result<(), Fail> {
     let image = PathText::new(String::from_str(rt.alloc(), "a b.img")?).into_string();
-    assert_eq!(rt; image.as_str(), "a b.img");
     let field = Path::new(String::from_str(rt.alloc(), "module[0].é")?).into_string();
-    assert_eq!(rt; field.as_str(), "module[0].é");
+    assert!(rt; image.as_str() == "a b.img" && field.as_str() == "module[0].é");
     Ok(())
 }
 
@@ -412,37 +403,36 @@ fn a_board_is_what_its_file_says(rt: HostRuntime) -> Result<(), Fail> {
         &[WHOLE, MODULE, OTHER, "start = true\n", DEVICE, script],
     )?;
     let board = read_board(rt.alloc(), text.as_bytes())?;
-    assert_eq!(rt; (board.ram, board.steps), (1_048_576, 20));
-    assert_eq!(rt; board.shares.items().len(), 0);
-    modules_are(&rt, board.modules.items())?;
-    device_is(&rt, board.devices.items())?;
-    assert_eq!(rt; board.shows.items().len(), 1);
-    for s in board.shows.items() {
-        assert_eq!(rt; (s.module.number(), s.offset, s.words), (1, 8, 3));
-    }
-    assert_eq!(rt; board.modules.into_vec().len(), 2);
+    assert!(rt; is_whole(&board) && board.modules.into_vec().len() == 2);
     Ok(())
 }
 
-fn modules_are(rt: &impl Abort, modules: &[BoardModule]) -> Result<(), Fail> {
-    assert_eq!(rt; modules.len(), 2);
-    let wants = [("one", "p1", false), ("two", "p2", true)];
-    for (m, (name, image, start)) in modules.iter().zip(wants.iter()) {
-        assert_eq!(rt; m.name.bytes(), name.as_bytes());
-        assert_eq!(rt; m.image.as_str(), *image);
-        assert_eq!(rt; m.start, *start);
-    }
-    Ok(())
+/// The numbers and the lists of the board.
+fn is_whole(b: &Board) -> bool {
+    let modules = match b.modules.items() {
+        [one, two] => is_module(one, b"one", "p1", false) && is_module(two, b"two", "p2", true),
+        _ => false,
+    };
+    let devices = match b.devices.items() {
+        [device] => is_device(device),
+        _ => false,
+    };
+    let shows = match b.shows.items() {
+        [s] => s.module.number() == 1 && s.offset == 8 && s.words == 3,
+        _ => false,
+    };
+    let numbers = b.ram == 1_048_576 && b.steps == 20 && b.shares.items().is_empty();
+    numbers && modules && devices && shows
 }
 
-fn device_is(rt: &impl Abort, devices: &[BoardDevice]) -> Result<(), Fail> {
-    assert_eq!(rt; devices.len(), 1);
-    for d in devices {
-        assert_eq!(rt; d.name.bytes(), b"d0".as_slice());
-        assert_eq!(rt; d.action, Action::Resume);
-        assert_eq!(rt; d.target.bytes(), b"none".as_slice());
-        let most = u32::MAX;
-        assert_eq!(rt; d.script.items(), [7, most, 7, most, 7, most].as_slice());
-    }
-    Ok(())
+fn is_module(m: &BoardModule, name: &[u8], image: &str, start: bool) -> bool {
+    m.name.bytes() == name && m.image.as_str() == image && m.start == start
+}
+
+fn is_device(d: &BoardDevice) -> bool {
+    let most = u32::MAX;
+    d.name.bytes() == b"d0".as_slice()
+        && d.action == Action::Resume
+        && d.target.bytes() == b"none".as_slice()
+        && d.script.items() == [7, most, 7, most, 7, most].as_slice()
 }
