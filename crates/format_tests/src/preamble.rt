@@ -8,6 +8,7 @@ use module_preamble::PreErr::{
     BadCode, BadData, BadEntry, BadId, BadMajor, BadPrio, BadProps, BadSize, BadStack, Short,
 };
 use module_preamble::{PreErr, Preamble, read};
+use std::process::Abort;
 
 /// A preamble of 32 words, one instruction, and a word more for an image that is grown.
 const MODULE: [u32; 34] = [
@@ -46,9 +47,6 @@ const MODULE: [u32; 34] = [
     0x0070_0293,
     0,
 ];
-
-/// No change: the module's number is 1 as it was.
-const NONE: (usize, u32) = (4, 1);
 
 /// The first bytes of the module with two words changed.
 fn image(changes: [(usize, u32); 2]) -> [u8; 136] {
@@ -89,23 +87,17 @@ fn reads_the_words(rt: HostRuntime) {
     assert!(rt; !want.has_callback());
 }
 
+/// A refusal has this name, number and word.
+fn has(e: PreErr, name: &str, number: Option<u32>, word: Option<u32>) -> bool {
+    e.name() == name && e.number() == number && e.word() == word
+}
+
 #[test]
 fn names_the_refusals(rt: HostRuntime) {
-    let short = Short(127);
-    assert_eq!(rt;
-        (short.name(), short.number(), short.word()),
-        ("Short", Some(127), None)
-    );
-    let id = BadId(0x4D4F_4456);
-    assert_eq!(rt;
-        (id.name(), id.number(), id.word()),
-        ("BadId", None, Some(0x4D4F_4456))
-    );
-    let entry = BadEntry(3, 132);
-    assert_eq!(rt;
-        (entry.name(), entry.number(), entry.word()),
-        ("BadEntry", Some(3), Some(132))
-    );
+    let short = has(Short(127), "Short", Some(127), None);
+    let id = has(BadId(0x4D4F_4456), "BadId", None, Some(0x4D4F_4456));
+    let entry = has(BadEntry(3, 132), "BadEntry", Some(3), Some(132));
+    assert!(rt; short && id && entry);
 }
 
 #[test]
@@ -123,116 +115,134 @@ fn refuses_by_the_first_broken_rule(rt: HostRuntime) {
         &STACKS,
     ];
     for cases in rules {
-        for &(len, first, second, refusal) in cases {
-            let bytes = image([first, second]);
-            let bytes = bytes.get(..len).expect(&rt, "a length up to 136");
-            assert_eq!(rt;
-                read(bytes).err(),
-                refusal,
-                "{len} bytes with {first:?}, {second:?}"
-            );
-        }
+        refused_as_told(&rt, cases);
     }
 }
 
-/// The length, two changed words, and the refusal.
-type Case = (usize, (usize, u32), (usize, u32), Option<PreErr>);
+/// The length of an image, the place and the value of each changed word, and the refusal.
+enum Case {
+    As(usize, Option<PreErr>),
+    One(usize, usize, u32, Option<PreErr>),
+    Two(usize, usize, u32, usize, u32, Option<PreErr>),
+}
+
+/// No change: the module's number is 1 as it was.
+const NONE: (usize, u32) = (4, 1);
+
+/// The length of a case's image, two words of it, and its refusal.
+fn parts(case: &Case) -> (usize, [(usize, u32); 2], Option<PreErr>) {
+    match *case {
+        Case::As(len, refusal) => (len, [NONE, NONE], refusal),
+        Case::One(len, i, w, refusal) => (len, [(i, w), NONE], refusal),
+        Case::Two(len, i, w, j, v, refusal) => (len, [(i, w), (j, v)], refusal),
+    }
+}
+
+/// Reading the image of each case is refused so, or it isn't.
+fn refused_as_told(rt: &impl Abort, cases: &[Case]) {
+    for case in cases {
+        let (len, changes, refusal) = parts(case);
+        let bytes = image(changes);
+        let bytes = bytes.get(..len).expect(rt, "a length up to 136");
+        assert_eq!(rt; read(bytes).err(), refusal, "{len} bytes with {changes:?}");
+    }
+}
 
 const LENGTH: [Case; 7] = [
-    (132, NONE, NONE, None),
-    (0, NONE, NONE, Some(Short(0))),
-    (127, NONE, NONE, Some(Short(127))),
-    (127, (0, 0), NONE, Some(Short(127))),
-    (128, NONE, NONE, Some(BadCode(132))),
-    (136, NONE, NONE, Some(BadCode(132))),
-    (136, (14, 136), NONE, None),
+    Case::As(132, None),
+    Case::As(0, Some(Short(0))),
+    Case::As(127, Some(Short(127))),
+    Case::One(127, 0, 0, Some(Short(127))),
+    Case::As(128, Some(BadCode(132))),
+    Case::As(136, Some(BadCode(132))),
+    Case::One(136, 14, 136, None),
 ];
 
 const ID: [Case; 3] = [
-    (132, (0, 0x4D4F_4454), NONE, Some(BadId(0x4D4F_4454))),
-    (132, (0, 0x4D4F_4456), (1, 9), Some(BadId(0x4D4F_4456))),
-    (132, (0, 0x5544_4F4D), NONE, Some(BadId(0x5544_4F4D))),
+    Case::One(132, 0, 0x4D4F_4454, Some(BadId(0x4D4F_4454))),
+    Case::Two(132, 0, 0x4D4F_4456, 1, 9, Some(BadId(0x4D4F_4456))),
+    Case::One(132, 0, 0x5544_4F4D, Some(BadId(0x5544_4F4D))),
 ];
 
 const VERSION: [Case; 5] = [
-    (132, (1, 0), NONE, Some(BadMajor(0))),
-    (132, (1, 1), NONE, None),
-    (132, (1, 7), NONE, Some(BadMajor(7))),
-    (132, (1, 7), (3, 31), Some(BadMajor(7))),
-    (132, (2, 0xFFFF_FFFF), NONE, None),
+    Case::One(132, 1, 0, Some(BadMajor(0))),
+    Case::One(132, 1, 1, None),
+    Case::One(132, 1, 7, Some(BadMajor(7))),
+    Case::Two(132, 1, 7, 3, 31, Some(BadMajor(7))),
+    Case::One(132, 2, 0xFFFF_FFFF, None),
 ];
 
 const SIZE: [Case; 4] = [
-    (132, (3, 31), NONE, Some(BadSize(31))),
-    (132, (3, 33), NONE, Some(BadSize(33))),
-    (132, (3, 128), (5, 0), Some(BadSize(128))),
-    (132, (4, 0xFFFF_FFFF), NONE, None),
+    Case::One(132, 3, 31, Some(BadSize(31))),
+    Case::One(132, 3, 33, Some(BadSize(33))),
+    Case::Two(132, 3, 128, 5, 0, Some(BadSize(128))),
+    Case::One(132, 4, 0xFFFF_FFFF, None),
 ];
 
 const PROPERTIES: [Case; 8] = [
-    (132, (5, 0), NONE, Some(BadProps(0))),
-    (132, (5, 1), NONE, Some(BadProps(1))),
-    (132, (5, 2), NONE, Some(BadProps(2))),
-    (132, (5, 7), NONE, None),
-    (132, (5, 0xFFFF_FFFF), NONE, None),
-    (132, (5, 0xFFFF_FFFE), NONE, Some(BadProps(0xFFFF_FFFE))),
-    (132, (5, 0xFFFF_FFFD), NONE, Some(BadProps(0xFFFF_FFFD))),
-    (132, (5, 0), (14, 128), Some(BadProps(0))),
+    Case::One(132, 5, 0, Some(BadProps(0))),
+    Case::One(132, 5, 1, Some(BadProps(1))),
+    Case::One(132, 5, 2, Some(BadProps(2))),
+    Case::One(132, 5, 7, None),
+    Case::One(132, 5, 0xFFFF_FFFF, None),
+    Case::One(132, 5, 0xFFFF_FFFE, Some(BadProps(0xFFFF_FFFE))),
+    Case::One(132, 5, 0xFFFF_FFFD, Some(BadProps(0xFFFF_FFFD))),
+    Case::Two(132, 5, 0, 14, 128, Some(BadProps(0))),
 ];
 
 const CODE: [Case; 5] = [
-    (128, (14, 128), NONE, Some(BadEntry(0, 128))),
-    (132, (14, 128), NONE, Some(BadCode(128))),
-    (132, (14, 136), NONE, Some(BadCode(136))),
-    (133, (14, 133), NONE, Some(BadCode(133))),
-    (132, (14, 128), (15, 1_048_577), Some(BadCode(128))),
+    Case::One(128, 14, 128, Some(BadEntry(0, 128))),
+    Case::One(132, 14, 128, Some(BadCode(128))),
+    Case::One(132, 14, 136, Some(BadCode(136))),
+    Case::One(133, 14, 133, Some(BadCode(133))),
+    Case::Two(132, 14, 128, 15, 1_048_577, Some(BadCode(128))),
 ];
 
 const DATA: [Case; 4] = [
-    (132, (15, 0), NONE, None),
-    (132, (15, 1_048_576), NONE, None),
-    (132, (15, 1_048_577), NONE, Some(BadData(1_048_577))),
-    (132, (15, 1_048_577), (6, 0), Some(BadData(1_048_577))),
+    Case::One(132, 15, 0, None),
+    Case::One(132, 15, 1_048_576, None),
+    Case::One(132, 15, 1_048_577, Some(BadData(1_048_577))),
+    Case::Two(132, 15, 1_048_577, 6, 0, Some(BadData(1_048_577))),
 ];
 
 const ENTRIES: [Case; 16] = [
-    (132, (6, 0), NONE, Some(BadEntry(0, 0))),
-    (132, (6, 124), NONE, Some(BadEntry(0, 124))),
-    (132, (6, 129), NONE, Some(BadEntry(0, 129))),
-    (132, (6, 132), NONE, Some(BadEntry(0, 132))),
-    (136, (6, 132), (14, 136), None),
-    (132, (6, 0), (7, 0), Some(BadEntry(0, 0))),
-    (132, (7, 0), NONE, Some(BadEntry(1, 0))),
-    (132, (7, 124), NONE, Some(BadEntry(1, 124))),
-    (132, (7, 130), NONE, Some(BadEntry(1, 130))),
-    (132, (7, 132), (8, 132), Some(BadEntry(1, 132))),
-    (132, (8, 128), NONE, None),
-    (132, (8, 124), NONE, Some(BadEntry(2, 124))),
-    (132, (8, 131), NONE, Some(BadEntry(2, 131))),
-    (132, (8, 132), (11, 132), Some(BadEntry(2, 132))),
-    (132, (11, 1), NONE, Some(BadEntry(3, 1))),
-    (132, (11, 132), (9, 32), Some(BadEntry(3, 132))),
+    Case::One(132, 6, 0, Some(BadEntry(0, 0))),
+    Case::One(132, 6, 124, Some(BadEntry(0, 124))),
+    Case::One(132, 6, 129, Some(BadEntry(0, 129))),
+    Case::One(132, 6, 132, Some(BadEntry(0, 132))),
+    Case::Two(136, 6, 132, 14, 136, None),
+    Case::Two(132, 6, 0, 7, 0, Some(BadEntry(0, 0))),
+    Case::One(132, 7, 0, Some(BadEntry(1, 0))),
+    Case::One(132, 7, 124, Some(BadEntry(1, 124))),
+    Case::One(132, 7, 130, Some(BadEntry(1, 130))),
+    Case::Two(132, 7, 132, 8, 132, Some(BadEntry(1, 132))),
+    Case::One(132, 8, 128, None),
+    Case::One(132, 8, 124, Some(BadEntry(2, 124))),
+    Case::One(132, 8, 131, Some(BadEntry(2, 131))),
+    Case::Two(132, 8, 132, 11, 132, Some(BadEntry(2, 132))),
+    Case::One(132, 11, 1, Some(BadEntry(3, 1))),
+    Case::Two(132, 11, 132, 9, 32, Some(BadEntry(3, 132))),
 ];
 
 const PRIORITIES: [Case; 7] = [
-    (132, (9, 0), NONE, None),
-    (132, (9, 31), NONE, None),
-    (132, (9, 32), NONE, Some(BadPrio(0, 32))),
-    (132, (9, 32), (10, 63), Some(BadPrio(0, 32))),
-    (132, (11, 128), (12, 31), Some(BadStack(1, 0))),
-    (132, (11, 128), (12, 32), Some(BadPrio(1, 32))),
-    (132, (12, 32), NONE, None),
+    Case::One(132, 9, 0, None),
+    Case::One(132, 9, 31, None),
+    Case::One(132, 9, 32, Some(BadPrio(0, 32))),
+    Case::Two(132, 9, 32, 10, 63, Some(BadPrio(0, 32))),
+    Case::Two(132, 11, 128, 12, 31, Some(BadStack(1, 0))),
+    Case::Two(132, 11, 128, 12, 32, Some(BadPrio(1, 32))),
+    Case::One(132, 12, 32, None),
 ];
 
 const STACKS: [Case; 10] = [
-    (132, (10, 63), NONE, Some(BadStack(0, 63))),
-    (132, (10, 63), (11, 128), Some(BadStack(0, 63))),
-    (132, (10, 64), NONE, None),
-    (132, (10, 65_536), NONE, None),
-    (132, (10, 65_537), NONE, Some(BadStack(0, 65_537))),
-    (132, (11, 128), (13, 63), Some(BadStack(1, 63))),
-    (132, (11, 128), (13, 64), None),
-    (132, (11, 128), (13, 65_536), None),
-    (132, (11, 128), (13, 65_537), Some(BadStack(1, 65_537))),
-    (132, (13, 65_537), NONE, None),
+    Case::One(132, 10, 63, Some(BadStack(0, 63))),
+    Case::Two(132, 10, 63, 11, 128, Some(BadStack(0, 63))),
+    Case::One(132, 10, 64, None),
+    Case::One(132, 10, 65_536, None),
+    Case::One(132, 10, 65_537, Some(BadStack(0, 65_537))),
+    Case::Two(132, 11, 128, 13, 63, Some(BadStack(1, 63))),
+    Case::Two(132, 11, 128, 13, 64, None),
+    Case::Two(132, 11, 128, 13, 65_536, None),
+    Case::Two(132, 11, 128, 13, 65_537, Some(BadStack(1, 65_537))),
+    Case::One(132, 13, 65_537, None),
 ];
