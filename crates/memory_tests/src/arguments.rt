@@ -7,7 +7,6 @@ use crate::samples::{CODE, DATA, memory};
 use call_arguments::{name_at, pointer_refusal, put_word, put_words, word_at};
 use region_guard::Access::{Fetch, Load, Store};
 use region_guard::{Access, Guard};
-use std::process::Abort;
 use std::test::Fail;
 use tx_types::{Code, ModNo};
 
@@ -49,19 +48,22 @@ const NO_POINTER: [Pointer; 5] = [
 ];
 
 /// All of the pointers are refused so, or none is.
-fn check(rt: &impl Abort, g: &Guard, pointers: &[Pointer], refusal: Option<Code>) {
+fn are(g: &Guard, pointers: &[Pointer], refusal: Option<Code>) -> bool {
     for (m, access, x, n) in pointers {
-        let answer = pointer_refusal(g, ModNo::new(*m % 16), *access, *x, *n);
-        assert_eq!(rt; answer, refusal, "{n} bytes at {x:x}");
+        if pointer_refusal(g, ModNo::new(*m % 16), *access, *x, *n) != refusal {
+            return false;
+        }
     }
+    true
 }
 
 #[test]
 fn pointers_at_the_edges_of_the_regions(rt: HostRuntime) -> Result<(), Fail> {
     let g = memory(rt.alloc(), &[CODE, DATA])?;
-    check(&rt, &g, &GOOD, None);
-    check(&rt, &g, &OUTSIDE, Some(Code::INVALID_MEMORY));
-    check(&rt, &g, &NO_POINTER, Some(Code::PTR_ERROR));
+    let good = are(&g, &GOOD, None);
+    let outside = are(&g, &OUTSIDE, Some(Code::INVALID_MEMORY));
+    let none = are(&g, &NO_POINTER, Some(Code::PTR_ERROR));
+    assert!(rt; good && outside && none);
     Ok(())
 }
 
@@ -98,25 +100,42 @@ fn length(g: &Guard, m: u8, x: u32) -> Result<usize, Code> {
     }
 }
 
-fn check_refused(rt: &impl Abort, g: &Guard, names: &[(u8, u32)], refusal: Code) {
-    for (m, x) in names {
-        assert_eq!(rt; length(g, *m, *x), Err(refusal), "the name at {x:x}");
+/// All of the names have as many bytes as they are said to have.
+fn are_long(g: &Guard, names: &[(u8, u32, usize)]) -> bool {
+    for (m, x, n) in names {
+        if length(g, *m, *x) != Ok(*n) {
+            return false;
+        }
     }
+    true
+}
+
+/// All of the names are refused so.
+fn are_refused(g: &Guard, names: &[(u8, u32)], refusal: Code) -> bool {
+    for (m, x) in names {
+        if length(g, *m, *x) != Err(refusal) {
+            return false;
+        }
+    }
+    true
+}
+
+/// The data is full of letters, but for one zero.
+fn is_lettered(g: &mut Guard) -> bool {
+    let m = ModNo::new(0);
+    let all = g.with_window(m, 0x8000_00A0, 0x140, |w| w.fill(b'n'));
+    let one = g.with_window(m, 0x8000_0100, 1, |w| w.fill(0));
+    all.is_some() && one.is_some()
 }
 
 #[test]
 fn names_up_to_their_zero(rt: HostRuntime) -> Result<(), Fail> {
     let mut g = memory(rt.alloc(), &[CODE, DATA])?;
-    let filled = [
-        g.with_window(ModNo::new(0), 0x8000_00A0, 0x140, |w| w.fill(b'n')),
-        g.with_window(ModNo::new(0), 0x8000_0100, 1, |w| w.fill(0)),
-    ];
-    assert_eq!(rt; filled, [Some(()); 2]);
-    for (m, x, n) in NAMES {
-        assert_eq!(rt; length(&g, m, x), Ok(n), "the name at {x:x}");
-    }
-    check_refused(&rt, &g, &LONG, Code::PTR_ERROR);
-    check_refused(&rt, &g, &NAMES_OUTSIDE, Code::INVALID_MEMORY);
+    let lettered = is_lettered(&mut g);
+    let names = are_long(&g, &NAMES);
+    let long = are_refused(&g, &LONG, Code::PTR_ERROR);
+    let outside = are_refused(&g, &NAMES_OUTSIDE, Code::INVALID_MEMORY);
+    assert!(rt; lettered && names && long && outside);
     Ok(())
 }
 
@@ -143,21 +162,33 @@ const WORDS: [(u32, u32); 4] = [
     (0x8000_01DC, 0x0077_6F6C),
 ];
 
+/// Three words are put, and read back.
+fn are_put(g: &mut Guard) -> bool {
+    let m = ModNo::new(0);
+    if g.may(m, Store, 0x8000_01D4, 12) {
+        put_words(g, m, 0x8000_01D4, &[0x6867_6968, 7, 0x0077_6F6C]);
+    }
+    for (a, w) in WORDS {
+        if word(g, a) != Some(w) {
+            return false;
+        }
+    }
+    true
+}
+
+/// The words are a name, and with one more word a longer one.
+fn are_names(g: &mut Guard) -> bool {
+    let m = ModNo::new(0);
+    let low = is_named(g, 0x8000_01DC, b"low");
+    if g.may(m, Store, 0x8000_01D8, 4) {
+        put_word(g, m, 0x8000_01D8, 0x2072_6F20);
+    }
+    low && is_named(g, 0x8000_01D4, b"high or low")
+}
+
 #[test]
 fn words_are_read_back_and_as_a_name(rt: HostRuntime) -> Result<(), Fail> {
     let mut g = memory(rt.alloc(), &[CODE, DATA])?;
-    let m = ModNo::new(0);
-    if g.may(m, Store, 0x8000_01D4, 12) {
-        put_words(&mut g, m, 0x8000_01D4, &[0x6867_6968, 7, 0x0077_6F6C]);
-    }
-    for (a, w) in WORDS {
-        assert_eq!(rt; word(&g, a), Some(w));
-    }
-    let low = is_named(&g, 0x8000_01DC, b"low");
-    if g.may(m, Store, 0x8000_01D8, 4) {
-        put_word(&mut g, m, 0x8000_01D8, 0x2072_6F20);
-    }
-    let both = is_named(&g, 0x8000_01D4, b"high or low");
-    assert!(rt; low && both);
+    assert!(rt; are_put(&mut g) && are_names(&mut g));
     Ok(())
 }

@@ -6,7 +6,6 @@
 use crate::samples::{CODE, DATA, SHARE, add, memory};
 use region_guard::Access::{Fetch, Load, Store};
 use region_guard::{Access, AddErr, Guard, Region, Rights};
-use std::process::Abort;
 use std::test::Fail;
 use tx_types::ModNo;
 
@@ -50,7 +49,7 @@ const REFUSED: [Use; 18] = [
 ];
 
 /// Each of the uses is allowed, or none is; and no address at all may be used by anyone.
-fn check(rt: &impl Abort, g: &Guard, uses: &[Use], allowed: bool) {
+fn are(g: &Guard, uses: &[Use], allowed: bool) -> bool {
     for (m, access, a, n) in uses {
         let m = ModNo::new(*m % 16);
         let is = g.may(m, *access, *a, *n) == allowed
@@ -58,15 +57,19 @@ fn check(rt: &impl Abort, g: &Guard, uses: &[Use], allowed: bool) {
             && g.bytes(m, *access, *a, *n).is_some() == allowed
             && g.may(m, *access, *a, 0)
             && !g.reaches(m, *access, *a, 0);
-        assert!(rt; is, "{n} bytes at {a:x}");
+        if !is {
+            return false;
+        }
     }
+    true
 }
 
 #[test]
 fn a_range_lies_in_one_region_that_allows_it(rt: HostRuntime) -> Result<(), Fail> {
     let g = memory(rt.alloc(), &[CODE, DATA, SHARE])?;
-    check(&rt, &g, &ALLOWED, true);
-    check(&rt, &g, &REFUSED, false);
+    let allowed = are(&g, &ALLOWED, true);
+    let refused = are(&g, &REFUSED, false);
+    assert!(rt; allowed && refused);
     Ok(())
 }
 
@@ -80,22 +83,20 @@ fn half(g: &Guard, a: u32) -> Option<u32> {
     }
 }
 
-#[test]
-fn what_is_stored_is_read(rt: HostRuntime) -> Result<(), Fail> {
-    let mut g = memory(rt.alloc(), &[CODE, DATA, SHARE])?;
+/// A word is stored at the end of the data, and read in parts.
+fn stores(g: &mut Guard) -> bool {
     let m = ModNo::new(0);
     if g.may(m, Store, 0x8000_01DC, 4) {
         g.put(m, 0x8000_01DC, 4, 0x0403_0201);
     }
-    let last = g.byte(m, Load, 0x8000_01DF) == Some(4) && g.byte(m, Store, 0x8000_01E0).is_none();
-    assert!(rt; half(&g, 0x8000_01DD) == Some(0x0302) && last);
-    assert_eq!(rt; read(&g, 0x8000_01DA, 6), [0, 0, 1, 2, 3, 4].as_slice());
-    Ok(())
+    half(g, 0x8000_01DD) == Some(0x0302)
+        && g.byte(m, Load, 0x8000_01DF) == Some(4)
+        && g.byte(m, Store, 0x8000_01E0).is_none()
+        && read(g, 0x8000_01DA, 6) == [0, 0, 1, 2, 3, 4].as_slice()
 }
 
-#[test]
-fn a_window_is_the_very_bytes(rt: HostRuntime) -> Result<(), Fail> {
-    let mut g = memory(rt.alloc(), &[CODE, DATA, SHARE])?;
+/// The last bytes of the data are written through windows, and no others.
+fn writes(g: &mut Guard) -> bool {
     let m = ModNo::new(0);
     if g.reaches(m, Store, 0x8000_01DC, 2) {
         g.window(m, 0x8000_01DC, 2).copy_from_slice(&[7, 8]);
@@ -103,8 +104,15 @@ fn a_window_is_the_very_bytes(rt: HostRuntime) -> Result<(), Fail> {
     let one = g.with_window(m, 0x8000_01DF, 1, |w| w.fill(9));
     let two = g.with_window(m, 0x8000_01DF, 2, |w| w.fill(1));
     let none = g.with_window(m, 0x8000_01DF, 0, |w| w.fill(1));
-    assert!(rt; one.is_some() && two.is_none() && none.is_none());
-    assert_eq!(rt; read(&g, 0x8000_01DA, 6), [0, 0, 7, 8, 0, 9].as_slice());
+    let written = read(g, 0x8000_01DA, 6) == [0, 0, 7, 8, 0, 9].as_slice();
+    one.is_some() && two.is_none() && none.is_none() && written
+}
+
+#[test]
+fn what_is_stored_is_read(rt: HostRuntime) -> Result<(), Fail> {
+    let mut stored = memory(rt.alloc(), &[CODE, DATA, SHARE])?;
+    let mut written = memory(rt.alloc(), &[CODE, DATA, SHARE])?;
+    assert!(rt; stores(&mut stored) && writes(&mut written));
     Ok(())
 }
 
@@ -133,30 +141,36 @@ fn region(base: u32, size: u32) -> Region {
     }
 }
 
-#[test]
-fn regions_that_meet_are_refused(rt: HostRuntime) -> Result<(), Fail> {
-    let mut g = memory(rt.alloc(), &[CODE, DATA, SHARE])?;
+/// Each region that meets another is refused, and the regions stay.
+fn refuses_what_meets(g: &mut Guard) -> bool {
     for (base, size, place) in OVERLAPS {
-        let answer = add(&mut g, region(base, size));
-        assert_eq!(rt;
-            answer,
-            Some(Err(AddErr::Overlap(place))),
-            "{size} at {base:x}"
-        );
+        if add(g, region(base, size)) != Some(Err(AddErr::Overlap(place))) {
+            return false;
+        }
     }
-    assert_eq!(rt; g.regions(), [CODE, DATA, SHARE].as_slice());
-    Ok(())
+    g.regions() == [CODE, DATA, SHARE].as_slice()
+}
+
+/// Memory with three regions takes as many more as there is room for.
+fn is_filled(g: &mut Guard) -> bool {
+    for i in 3..64 {
+        if add(g, region(0x8000_0200 + 32 * i, 32)) != Some(Ok(())) {
+            return false;
+        }
+    }
+    true
+}
+
+/// Full memory takes no region, though it meets none, or meets one.
+fn takes_no_more(g: &mut Guard) -> bool {
+    let apart = add(g, region(0x8000_0FFF, 1)) == Some(Err(AddErr::Full));
+    let meets = add(g, CODE) == Some(Err(AddErr::Full));
+    apart && meets && g.regions().len() == 64
 }
 
 #[test]
-fn full_memory_takes_no_region(rt: HostRuntime) -> Result<(), Fail> {
+fn regions_are_refused(rt: HostRuntime) -> Result<(), Fail> {
     let mut g = memory(rt.alloc(), &[CODE, DATA, SHARE])?;
-    for i in 3..64 {
-        let answer = add(&mut g, region(0x8000_0200 + 32 * i, 32));
-        assert_eq!(rt; answer, Some(Ok(())), "region {i}");
-    }
-    let more = [add(&mut g, region(0x8000_0FFF, 1)), add(&mut g, CODE)];
-    assert_eq!(rt; more, [Some(Err(AddErr::Full)); 2]);
-    assert_eq!(rt; g.regions().len(), 64);
+    assert!(rt; refuses_what_meets(&mut g) && is_filled(&mut g) && takes_no_more(&mut g));
     Ok(())
 }

@@ -7,7 +7,6 @@ use flat_ram::Ram;
 use module_loader::{PlaceErr, Placed, Range, Want, load, place, want_of};
 use module_preamble::Preamble;
 use std::alloc::Global;
-use std::process::Abort;
 use std::test::Fail;
 
 /// What a module wants, where its sizes have their bounds.
@@ -41,16 +40,9 @@ fn a_module_wants_its_code_and_all_its_data(rt: HostRuntime) {
         ..alone
     };
     // 112 bytes of data, 112 and 144 of stacks
-    let wants = [want(&MODULE), want(&alone), want(&large), want(&small)];
-    assert_eq!(rt;
-        wants,
-        [
-            Some((224, 368)),
-            Some((224, 224)),
-            Some((0x10_0000, 0x12_0000)),
-            Some((224, 80)),
-        ]
-    );
+    let both = want(&MODULE) == Some((224, 368)) && want(&alone) == Some((224, 224));
+    let edges = want(&large) == Some((0x10_0000, 0x12_0000)) && want(&small) == Some((224, 80));
+    assert!(rt; both && edges);
 }
 
 /// Places modules, given as code and data bytes, where the free ranges are addressable.
@@ -88,11 +80,16 @@ fn put<T: Drop>(all: &mut Vec<T>, x: T) -> Result<(), PlaceErr> {
 }
 
 /// The code and the data of the modules lie there.
-fn check(rt: &impl Abort, alloc: Global, free: &[Range], wants: &[(u32, u32)], due: &[(u32, u32)]) {
+fn lie(alloc: Global, free: &[Range], wants: &[(u32, u32)], due: &[(u32, u32)]) -> bool {
     match places(alloc, free, wants) {
-        Ok(all) => assert_eq!(rt; all.as_slice(), due),
-        Err(_) => panic!(rt; "no place"),
+        Ok(all) => all.as_slice() == due,
+        Err(_) => false,
     }
+}
+
+/// The first of the modules that finds no room is this one.
+fn stop(alloc: Global, free: &[Range], wants: &[(u32, u32)], first: u8) -> bool {
+    places(alloc, free, wants).err() == Some(PlaceErr::NoRoom(first))
 }
 
 /// Three modules that fill RAM from its start.
@@ -113,52 +110,51 @@ const fn free(base: u32, size: u32) -> Range {
     Range { base, size }
 }
 
-#[test]
-fn modules_lie_one_after_the_other(rt: HostRuntime) {
-    let due = [
-        (0x8000_0000, 0x8000_00E0),
-        (0x8000_0260, 0x8000_0340),
-        (0x8000_0480, 0x8000_0520),
-    ];
-    for size in [4096, 0x660] {
-        check(&rt, rt.alloc(), &[free(0x8000_0000, size)], &WANTS, &due);
-    }
+/// Where those modules lie.
+const DUE: [(u32, u32); 3] = [
+    (0x8000_0000, 0x8000_00E0),
+    (0x8000_0260, 0x8000_0340),
+    (0x8000_0480, 0x8000_0520),
+];
+
+/// Each smaller memory stops at its module.
+fn each_stops(alloc: Global) -> bool {
     for (size, first) in TOO_SMALL {
-        let end = places(rt.alloc(), &[free(0x8000_0000, size)], &WANTS).err();
-        assert_eq!(rt; end, Some(PlaceErr::NoRoom(first)), "{size} bytes");
+        if !stop(alloc, &[free(0x8000_0000, size)], &WANTS, first) {
+            return false;
+        }
     }
+    true
 }
 
 #[test]
+fn modules_lie_one_after_the_other(rt: HostRuntime) {
+    let page = lie(rt.alloc(), &[free(0x8000_0000, 4096)], &WANTS, &DUE);
+    let tight = lie(rt.alloc(), &[free(0x8000_0000, 0x660)], &WANTS, &DUE);
+    assert!(rt; page && tight && each_stops(rt.alloc()));
+}
+
+/// Three modules whose code and data lie now in the one and now in the other of two free ranges.
+const THREE: [(u32, u32); 3] = [(132, 64), (132, 96), (132, 32)];
+
+const APART: [(u32, u32); 3] = [
+    (0x8000_0100, 0x8000_0000),
+    (0x8000_01A0, 0x8000_0240),
+    (0x8000_02A0, 0x8000_0040),
+];
+
+#[test]
 fn the_first_range_that_holds_it_is_taken(rt: HostRuntime) {
+    let a = rt.alloc();
     let ranges = [free(0x8000_0000, 0x60), free(0x8000_0100, 0x300)];
-    let due = [
-        (0x8000_0100, 0x8000_0000),
-        (0x8000_01A0, 0x8000_0240),
-        (0x8000_02A0, 0x8000_0040),
-    ];
-    check(
-        &rt,
-        rt.alloc(),
-        &ranges,
-        &[(132, 64), (132, 96), (132, 32)],
-        &due,
-    );
+    let apart = lie(a, &ranges, &THREE, &APART);
     // nothing begins before the first multiple of 32
     let odd = [free(0x8000_0004, 0x200)];
-    check(
-        &rt,
-        rt.alloc(),
-        &odd,
-        &[(132, 64)],
-        &[(0x8000_0020, 0x8000_00C0)],
-    );
-    check(&rt, rt.alloc(), &[], &[], &[]);
-    let ends = [
-        places(rt.alloc(), &[], &[(132, 64)]).err(),
-        places(rt.alloc(), &[free(0xFFFF_FFE1, 1)], &[(4, 4)]).err(),
-    ];
-    assert_eq!(rt; ends, [Some(PlaceErr::NoRoom(0)); 2]);
+    let multiple = lie(a, &odd, &[(132, 64)], &[(0x8000_0020, 0x8000_00C0)]);
+    let none = lie(a, &[], &[], &[]);
+    let full = stop(a, &[], &[(132, 64)], 0);
+    let last = stop(a, &[free(0xFFFF_FFE1, 1)], &[(4, 4)], 0);
+    assert!(rt; apart && multiple && none && full && last);
 }
 
 /// Loads an image, where it is in RAM.
@@ -185,19 +181,20 @@ fn bytes(ram: &Ram, at: u32, n: u32) -> &[u8] {
     }
 }
 
+/// Images are loaded where they are in RAM, up to its end.
+fn loads(ram: &mut Ram) -> bool {
+    let low = loaded(ram, &[1, 2, 3, 4, 5], 0x8000_0260);
+    let high = loaded(ram, &[6, 7, 8, 9], 0x8000_03FC);
+    let past = loaded(ram, &[6, 7, 8, 9, 10], 0x8000_03FC);
+    low && high && !past
+}
+
 #[test]
 fn an_image_is_read_back(rt: HostRuntime) -> Result<(), Fail> {
     let mut ram = Ram::new(rt.alloc(), 0x400)?;
-    let done = [
-        loaded(&mut ram, &[1, 2, 3, 4, 5], 0x8000_0260),
-        loaded(&mut ram, &[6, 7, 8, 9], 0x8000_03FC),
-        loaded(&mut ram, &[6, 7, 8, 9, 10], 0x8000_03FC),
-    ];
-    assert_eq!(rt; done, [true, true, false]);
-    assert_eq!(rt;
-        bytes(&ram, 0x25E, 9),
-        [0, 0, 1, 2, 3, 4, 5, 0, 0].as_slice()
-    );
-    assert_eq!(rt; bytes(&ram, 0x3FA, 6), [0, 0, 6, 7, 8, 9].as_slice());
+    let done = loads(&mut ram);
+    let low = bytes(&ram, 0x25E, 9) == [0, 0, 1, 2, 3, 4, 5, 0, 0].as_slice();
+    let high = bytes(&ram, 0x3FA, 6) == [0, 0, 6, 7, 8, 9].as_slice();
+    assert!(rt; done && low && high);
     Ok(())
 }
