@@ -26,32 +26,40 @@ fn read_through<F: Files>(
     files.read(alloc, name, max)
 }
 
+/// A read of a name, and what it gives or why it gives nothing.
+enum Case {
+    Gives(&'static str, u8, &'static str),
+    Fails(&'static str, u8, ReadErr),
+}
+
+const CASES: [Case; 8] = [
+    Case::Gives("a", 3, "hell"),
+    Case::Fails("a", 3, ReadErr::Failed),
+    Case::Fails("b", 3, ReadErr::Missing),
+    Case::Gives("a", 4, "hello"),
+    Case::Fails("b", 3, ReadErr::Failed),
+    Case::Gives("a", 9, "hello"),
+    Case::Gives("", 0, ""),
+    Case::Gives("a", 0, "h"),
+];
+
+/// A read is as told.
+fn holds(files: &mut MemFiles, alloc: Global, case: &Case) -> bool {
+    match *case {
+        Case::Gives(name, max, text) => read_through(files, alloc, name, u32::from(max)).is_ok_and(
+            |bytes| bytes.as_slice() == text.as_bytes(),
+        ),
+        Case::Fails(name, max, why) => {
+            read_through(files, alloc, name, u32::from(max)).err() == Some(why)
+        }
+    }
+}
+
 #[test]
 fn reads_the_prefix_or_says_why_not(rt: HostRuntime) -> Result<(), Fail> {
     let mut files = two_files(rt.alloc(), vec![in rt.alloc(); 5, 2]?)?;
-    let reads = [
-        ("a", 3u16, Ok("hell")),
-        ("a", 3, Err(ReadErr::Failed)),
-        ("b", 3, Err(ReadErr::Missing)),
-        ("a", 4, Ok("hello")),
-        ("b", 3, Err(ReadErr::Failed)),
-        ("a", 9, Ok("hello")),
-        ("", 0, Ok("")),
-        ("a", 0, Ok("h")),
-    ];
-    for (name, max, want) in reads {
-        match (
-            read_through(&mut files, rt.alloc(), name, u32::from(max)),
-            want,
-        ) {
-            (Ok(bytes), Ok(text)) => assert_eq!(rt;
-                bytes.as_slice(),
-                text.as_bytes(),
-                "{name}, {max}"
-            ),
-            (Err(why), Err(cause)) => assert_eq!(rt; why, cause, "{name}, {max}"),
-            _ => panic!(rt; "at {name}, {max}"),
-        }
+    for (i, case) in CASES.iter().enumerate() {
+        assert!(rt; holds(&mut files, rt.alloc(), case), "read {i}");
     }
     Ok(())
 }

@@ -10,8 +10,6 @@ mod calls;
 #[cfg(test)]
 mod files;
 #[cfg(test)]
-mod lists;
-#[cfg(test)]
 mod refusals;
 #[cfg(test)]
 mod sinks;
