@@ -4,9 +4,8 @@
 //! word of memory, and who runs.
 
 use crate::names::FEATURE_NOT_ENABLED;
-use crate::pair::{DATA, play};
-use crate::steps::Step;
-use std::test::Fail;
+use crate::pair::DATA;
+use crate::steps::{Step, Test};
 
 /// Numbers below, between and above those of the services, and two whose low byte is one of theirs.
 const NO_SERVICES: &[u32] = &[0x00, 0x05, 0x0F, 0x92, 0xFF, 0x117, 0x100_0001, u32::MAX];
@@ -21,7 +20,5 @@ const REFUSED: &[Step] = &[
     Step::Runs(Some(0)),
 ];
 
-#[test]
-fn a_number_without_a_row_is_refused(rt: HostRuntime) -> Result<(), Fail> {
-    play(&rt, rt.alloc(), &[REFUSED])
-}
+/// The tests, each on a new board.
+pub const TESTS: &[Test] = &[Test::Of("a number without a row is refused", &[REFUSED])];

@@ -7,10 +7,9 @@ use crate::names::{
     INVALID_MEMORY, OBJECT_ALLOCATE, PRIORITY_ERROR, PTR_ERROR, SIZE_ERROR, START_ERROR, SUCCESS,
     THREAD_CREATE, THREAD_ERROR, THREAD_SUSPEND, THRESH_ERROR,
 };
-use crate::pair::{BLOCK, CODE, DATA, MAIN, NAME, OTHER, OTHER_CODE, OTHER_DATA, WORDS, play};
-use crate::steps::{Mark, Step};
+use crate::pair::{BLOCK, CODE, DATA, MAIN, NAME, OTHER, OTHER_CODE, OTHER_DATA, WORDS};
+use crate::steps::{Mark, Step, Test};
 use object_grants::SlotState;
-use std::test::Fail;
 use tx_types::State;
 
 /// Where words of the block stand.
@@ -73,37 +72,12 @@ const STILL_EMPTY: &[Step] = &[
     Step::Slot(3, SlotState::Empty, 1, 0, 0),
 ];
 
-#[test]
-fn arguments_are_refused(rt: HostRuntime) -> Result<(), Fail> {
-    play(
-        &rt,
-        rt.alloc(),
-        &[
-            PREPARED,
-            LONG_NAMES,
-            NO_SLOTS,
-            NO_NAMES,
-            NO_BLOCKS,
-            STILL_EMPTY,
-        ],
-    )
-}
-
 const A_FOREIGN_EMPTY_SLOT_IS_REFUSED: &[Step] = &[
     Step::Call(THREAD_SUSPEND, [MAIN, 0, 0], SUCCESS),
     Step::Put(1, OTHER_DATA, &WORDS),
     Step::Call(THREAD_CREATE, [0x102, 0, OTHER_DATA], THREAD_ERROR),
     Step::Slot(2, SlotState::Empty, 1, 0, 0),
 ];
-
-#[test]
-fn a_foreign_empty_slot_is_refused(rt: HostRuntime) -> Result<(), Fail> {
-    play(
-        &rt,
-        rt.alloc(),
-        &[PREPARED, A_FOREIGN_EMPTY_SLOT_IS_REFUSED],
-    )
-}
 
 const ENTRIES: &[Step] = &[
     Step::Create([(ENTRY, 0), (SIZE, 0)], PTR_ERROR),
@@ -142,15 +116,6 @@ const NUMBERS: &[Step] = &[
 
 const NOT_CREATED: &[Step] = &[Step::Slot(2, SlotState::Empty, 1, 0, 0), Step::Name(2, b"")];
 
-#[test]
-fn blocks_are_refused(rt: HostRuntime) -> Result<(), Fail> {
-    play(
-        &rt,
-        rt.alloc(),
-        &[PREPARED, ENTRIES, SIZES, STACKS, NUMBERS, NOT_CREATED],
-    )
-}
-
 const CREATED: &[Step] = &[
     Step::Call(THREAD_CREATE, [0x102, NAME, BLOCK], SUCCESS),
     Step::Call(THREAD_CREATE, [0x102, NAME, BLOCK], THREAD_ERROR),
@@ -163,11 +128,6 @@ const CREATED: &[Step] = &[
     Step::Module(2, 0),
     Step::Opening(2, CODE + 0x84, [DATA + 0x240, DATA, CODE + 0x80, 7]),
 ];
-
-#[test]
-fn a_created_thread_is_suspended(rt: HostRuntime) -> Result<(), Fail> {
-    play(&rt, rt.alloc(), &[PREPARED, CREATED])
-}
 
 /// A name of 31 bytes, a block at the data's end and a stack at the data's end.
 const THE_FURTHEST: &[Step] = &[
@@ -193,11 +153,6 @@ const THE_LOWEST: &[Step] = &[
     Step::Runs(Some(0)),
 ];
 
-#[test]
-fn names_and_ranges_at_their_edges(rt: HostRuntime) -> Result<(), Fail> {
-    play(&rt, rt.alloc(), &[PREPARED, THE_FURTHEST, THE_LOWEST])
-}
-
 const STARTED_BEHIND_THE_CALLER: &[Step] = &[
     Step::Put(0, BLOCK + 28, &[1]),
     Step::Call(THREAD_CREATE, [0x102, NAME, BLOCK], SUCCESS),
@@ -218,15 +173,38 @@ const STARTED_BEFORE_THE_CALLER: &[Step] = &[
     Step::Holds(0, false),
 ];
 
-#[test]
-fn a_created_thread_starts_at_once(rt: HostRuntime) -> Result<(), Fail> {
-    play(
-        &rt,
-        rt.alloc(),
+/// The tests, each on a new board.
+pub const TESTS: &[Test] = &[
+    Test::Of(
+        "arguments are refused",
+        &[
+            PREPARED,
+            LONG_NAMES,
+            NO_SLOTS,
+            NO_NAMES,
+            NO_BLOCKS,
+            STILL_EMPTY,
+        ],
+    ),
+    Test::Of(
+        "a foreign empty slot is refused",
+        &[PREPARED, A_FOREIGN_EMPTY_SLOT_IS_REFUSED],
+    ),
+    Test::Of(
+        "blocks are refused",
+        &[PREPARED, ENTRIES, SIZES, STACKS, NUMBERS, NOT_CREATED],
+    ),
+    Test::Of("a created thread is suspended", &[PREPARED, CREATED]),
+    Test::Of(
+        "names and ranges at their edges",
+        &[PREPARED, THE_FURTHEST, THE_LOWEST],
+    ),
+    Test::Of(
+        "a created thread starts at once",
         &[
             PREPARED,
             STARTED_BEHIND_THE_CALLER,
             STARTED_BEFORE_THE_CALLER,
         ],
-    )
-}
+    ),
+];

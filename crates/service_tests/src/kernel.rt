@@ -8,7 +8,7 @@ use crate::names::{
     THREAD_RESUME,
 };
 use crate::pair::{BLOCK, DATA, MAIN, WORDS, board};
-use crate::steps::{Step, play};
+use crate::steps::{Step, Test, play};
 use kernel_state::Kernel;
 use object_grants::SlotState;
 use std::alloc::Global;
@@ -16,7 +16,7 @@ use std::test::Fail;
 use tx_types::{Kind, ModNo, Name, ObjNo, ThreadNo};
 
 /// MAIN, with threshold 4, is preempted by thread 2, of priority 3.
-const PREEMPTED: &[Step] = &[
+const STEPS: &[Step] = &[
     Step::Put(0, BLOCK, &WORDS),
     Step::Call(OBJECT_ALLOCATE, [1, DATA, 0], SUCCESS),
     Step::Call(THREAD_CREATE, [0x102, 0, BLOCK], SUCCESS),
@@ -25,6 +25,8 @@ const PREEMPTED: &[Step] = &[
     Step::Call(THREAD_RESUME, [0x102, 0, 0], SUCCESS),
     Step::Runs(Some(2)),
 ];
+
+const PREEMPTED: Test = Test::Of("MAIN is preempted", &[STEPS]);
 
 /// Whether these are the threads of a list.
 fn are(threads: &[ThreadNo], numbers: &[u16]) -> bool {
@@ -42,7 +44,7 @@ fn are(threads: &[ThreadNo], numbers: &[u16]) -> bool {
 #[test]
 fn ready_threads_and_holders_are_listed(rt: HostRuntime) -> Result<(), Fail> {
     let mut b = board(rt.alloc())?;
-    play(&rt, &mut b, &[PREEMPTED]);
+    play(&rt, &mut b, &PREEMPTED);
     let ready = b
         .kernel()
         .ready

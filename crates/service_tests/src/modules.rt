@@ -3,7 +3,7 @@
 
 use crate::board::{Area, Board};
 use crate::names::{START_ERROR, SUCCESS};
-use crate::steps::{Mark, Step, play};
+use crate::steps::{Mark, Step, Test, play};
 use module_loader::Placed;
 use module_manager::Manager;
 use module_preamble::Preamble;
@@ -199,10 +199,14 @@ const FEW_SLOTS: &[Step] = &[
     Step::Slot(255, SlotState::Empty, 2, 7, 0),
 ];
 
-#[test]
-fn modules_are_started_and_fault(rt: HostRuntime) -> Result<(), Fail> {
-    let tests: [&[&[Step]]; 3] = [
+/// The tests, each on a new board.
+const TESTS: [Test; 3] = [
+    Test::Of(
+        "a module is started",
         &[STARTED_ALONE, ITS_THREAD, NOT_STARTED_AGAIN],
+    ),
+    Test::Of(
+        "two modules are started and fault",
         &[
             BOTH_STARTED,
             THEIR_THREADS,
@@ -210,11 +214,15 @@ fn modules_are_started_and_fault(rt: HostRuntime) -> Result<(), Fail> {
             ITS_SLOTS_ARE_FREE,
             BOTH_FAULTED,
         ],
-        &[FEW_SLOTS],
-    ];
-    for tables in tests {
+    ),
+    Test::Of("few slots are usable", &[FEW_SLOTS]),
+];
+
+#[test]
+fn modules_are_started_and_fault(rt: HostRuntime) -> Result<(), Fail> {
+    for test in &TESTS {
         let mut b = Board::of_modules(rt.alloc(), manager(rt.alloc())?, &AREAS)?;
-        play(&rt, &mut b, tables);
+        play(&rt, &mut b, test);
     }
     Ok(())
 }

@@ -7,9 +7,8 @@ use crate::names::{
     THREAD_INFO_GET, THREAD_PREEMPTION_CHANGE, THREAD_PRIORITY_CHANGE, THREAD_RESUME,
     THREAD_TIME_SLICE_CHANGE, THRESH_ERROR,
 };
-use crate::pair::{BLOCK, CODE, DATA, MAIN, OTHER_DATA, WORDS, play};
-use crate::steps::Step;
-use std::test::Fail;
+use crate::pair::{BLOCK, CODE, DATA, MAIN, OTHER_DATA, WORDS};
+use crate::steps::{Step, Test};
 
 /// MAIN makes the suspended threads 0x102 and 0x103 of priority 15, threshold 12 and slice 3.
 const WORKERS: &[Step] = &[
@@ -46,11 +45,6 @@ const TOLD: &[Step] = &[
     Step::Words(0, DATA + 0x3E0, &[3, 0, 15, 12, 15, 12, 3, 3]),
     Step::Words(0, BLOCK, &[CODE + 0x80]),
 ];
-
-#[test]
-fn a_thread_is_told(rt: HostRuntime) -> Result<(), Fail> {
-    play(&rt, rt.alloc(), &[WORKERS, NO_PLACES, PLACES, TOLD])
-}
 
 /// Where the old number can't be written: before a threshold that is too high, before a priority that
 /// is, and before a slice.
@@ -183,27 +177,6 @@ const ONLY_A_SLICE_HAS_NO_MOST: &[Step] = &[
     Step::Numbers(3, [15, 12, 15, 12, u32::MAX, u32::MAX]),
 ];
 
-#[test]
-fn numbers_are_refused(rt: HostRuntime) -> Result<(), Fail> {
-    play(
-        &rt,
-        rt.alloc(),
-        &[
-            WORKERS,
-            NO_OLD_THRESHOLD,
-            KEPT,
-            NO_THRESHOLDS,
-            NO_OLD_PRIORITY,
-            KEPT,
-            NO_PRIORITIES,
-            NO_OLD_SLICE,
-            KEPT,
-            SLICES,
-            ONLY_A_SLICE_HAS_NO_MOST,
-        ],
-    )
-}
-
 const A_THRESHOLD_IS_CHANGED: &[Step] = &[
     Step::Call(THREAD_PREEMPTION_CHANGE, [0x102, 15, DATA], SUCCESS),
     Step::Words(0, DATA, &[12]),
@@ -236,19 +209,6 @@ const A_THRESHOLD_HOLDS_OFF_THE_OTHERS: &[Step] = &[
     Step::Holds(0, false),
 ];
 
-#[test]
-fn a_threshold_is_changed(rt: HostRuntime) -> Result<(), Fail> {
-    play(
-        &rt,
-        rt.alloc(),
-        &[
-            WORKERS,
-            A_THRESHOLD_IS_CHANGED,
-            A_THRESHOLD_HOLDS_OFF_THE_OTHERS,
-        ],
-    )
-}
-
 const A_PRIORITY_IS_CHANGED: &[Step] = &[
     Step::Call(THREAD_PRIORITY_CHANGE, [0x102, 31, DATA], SUCCESS),
     Step::Words(0, DATA, &[15]),
@@ -279,19 +239,6 @@ const A_THREAD_GOES_BEHIND_THOSE_OF_ITS_PRIORITY: &[Step] = &[
     Step::Runs(Some(0)),
 ];
 
-#[test]
-fn a_priority_is_changed(rt: HostRuntime) -> Result<(), Fail> {
-    play(
-        &rt,
-        rt.alloc(),
-        &[
-            WORKERS,
-            A_PRIORITY_IS_CHANGED,
-            A_THREAD_GOES_BEHIND_THOSE_OF_ITS_PRIORITY,
-        ],
-    )
-}
-
 const A_SLICE_IS_CHANGED: &[Step] = &[
     Step::Call(THREAD_TIME_SLICE_CHANGE, [0x102, 9, DATA + 0x3FC], SUCCESS),
     Step::Words(0, DATA + 0x3FC, &[3]),
@@ -311,7 +258,40 @@ const A_SLICE_IS_CHANGED: &[Step] = &[
     Step::Numbers(2, [15, 12, 15, 12, 1, 1]),
 ];
 
-#[test]
-fn a_slice_is_changed(rt: HostRuntime) -> Result<(), Fail> {
-    play(&rt, rt.alloc(), &[WORKERS, A_SLICE_IS_CHANGED])
-}
+/// The tests, each on a new board.
+pub const TESTS: &[Test] = &[
+    Test::Of("a thread is told", &[WORKERS, NO_PLACES, PLACES, TOLD]),
+    Test::Of(
+        "numbers are refused",
+        &[
+            WORKERS,
+            NO_OLD_THRESHOLD,
+            KEPT,
+            NO_THRESHOLDS,
+            NO_OLD_PRIORITY,
+            KEPT,
+            NO_PRIORITIES,
+            NO_OLD_SLICE,
+            KEPT,
+            SLICES,
+            ONLY_A_SLICE_HAS_NO_MOST,
+        ],
+    ),
+    Test::Of(
+        "a threshold is changed",
+        &[
+            WORKERS,
+            A_THRESHOLD_IS_CHANGED,
+            A_THRESHOLD_HOLDS_OFF_THE_OTHERS,
+        ],
+    ),
+    Test::Of(
+        "a priority is changed",
+        &[
+            WORKERS,
+            A_PRIORITY_IS_CHANGED,
+            A_THREAD_GOES_BEHIND_THOSE_OF_ITS_PRIORITY,
+        ],
+    ),
+    Test::Of("a slice is changed", &[WORKERS, A_SLICE_IS_CHANGED]),
+];

@@ -8,10 +8,9 @@ use crate::names::{
     OBJECT_POINTER_GET, OPTION_ERROR, PTR_ERROR, SUCCESS, THREAD_CREATE, THREAD_DELETE,
     THREAD_ERROR, THREAD_RESUME, THREAD_SUSPEND,
 };
-use crate::pair::{BLOCK, CODE, DATA, MAIN, OTHER, OTHER_CODE, OTHER_DATA, WORDS, play};
-use crate::steps::{Mark, Step};
+use crate::pair::{BLOCK, CODE, DATA, MAIN, OTHER, OTHER_CODE, OTHER_DATA, WORDS};
+use crate::steps::{Mark, Step, Test};
 use object_grants::SlotState;
-use std::test::Fail;
 use tx_types::State;
 
 /// A kind, where to write the reference, nothing, and the answer: what is no kind.
@@ -46,15 +45,6 @@ const SLOTS_ARE_ALLOCATED: &[Step] = &[
     Step::Slot(3, SlotState::Empty, 1, 0, 0),
 ];
 
-#[test]
-fn slots_are_allocated(rt: HostRuntime) -> Result<(), Fail> {
-    play(
-        &rt,
-        rt.alloc(),
-        &[NO_KINDS, FREE, NO_PLACES, FREE, SLOTS_ARE_ALLOCATED],
-    )
-}
-
 const ALL_SLOTS: &[Step] = &[Step::Slots(2, 256)];
 
 const NO_SLOT_IS_LEFT: &[Step] = &[
@@ -66,11 +56,6 @@ const NO_SLOT_IS_LEFT: &[Step] = &[
     Step::Call(OBJECT_ALLOCATE, [1, DATA, 0], SUCCESS),
     Step::Words(0, DATA, &[0x2C8]),
 ];
-
-#[test]
-fn all_slots_are_taken(rt: HostRuntime) -> Result<(), Fail> {
-    play(&rt, rt.alloc(), &[ALL_SLOTS, NO_SLOT_IS_LEFT])
-}
 
 const NO_EMPTY_SLOTS: &[Step] = &[
     Step::Call(OBJECT_DEALLOCATE, [0, 0, 0], PTR_ERROR),
@@ -101,19 +86,6 @@ const A_SLOT_IS_FREED_BY_ITS_OWNER: &[Step] = &[
     Step::Call(OBJECT_DEALLOCATE, [0x103, 0, 0], SUCCESS),
     Step::Slot(3, SlotState::Free, 1, 0, 0),
 ];
-
-#[test]
-fn slots_are_freed(rt: HostRuntime) -> Result<(), Fail> {
-    play(
-        &rt,
-        rt.alloc(),
-        &[
-            NO_EMPTY_SLOTS,
-            A_SLOT_IS_FREED,
-            A_SLOT_IS_FREED_BY_ITS_OWNER,
-        ],
-    )
-}
 
 /// Module 1's name of module 0's threads, and what has no end in 32 bytes.
 const SOUGHT: u32 = OTHER_DATA + 0x40;
@@ -194,22 +166,6 @@ const FOUND: &[Step] = &[
     Step::State(2, State::Ready, Mark::None),
 ];
 
-#[test]
-fn objects_are_found_by_name(rt: HostRuntime) -> Result<(), Fail> {
-    play(
-        &rt,
-        rt.alloc(),
-        &[
-            NAMESAKES,
-            NAMES,
-            NO_NAMES,
-            NO_PLACES_FOR_THE_FOUND,
-            NOT_FOUND,
-            FOUND,
-        ],
-    )
-}
-
 const FOUND_WITHOUT_A_NAME: &[Step] = &[
     Step::Call(OBJECT_POINTER_GET, [1, 0, DATA + 0x3FC], SUCCESS),
     Step::Words(0, DATA + 0x3FC, &[MAIN]),
@@ -222,7 +178,34 @@ const FOUND_WITHOUT_A_NAME: &[Step] = &[
     Step::Runs(Some(0)),
 ];
 
-#[test]
-fn no_name_finds_the_lowest_object_without_one(rt: HostRuntime) -> Result<(), Fail> {
-    play(&rt, rt.alloc(), &[FOUND_WITHOUT_A_NAME])
-}
+/// The tests, each on a new board.
+pub const TESTS: &[Test] = &[
+    Test::Of(
+        "slots are allocated",
+        &[NO_KINDS, FREE, NO_PLACES, FREE, SLOTS_ARE_ALLOCATED],
+    ),
+    Test::Of("all slots are taken", &[ALL_SLOTS, NO_SLOT_IS_LEFT]),
+    Test::Of(
+        "slots are freed",
+        &[
+            NO_EMPTY_SLOTS,
+            A_SLOT_IS_FREED,
+            A_SLOT_IS_FREED_BY_ITS_OWNER,
+        ],
+    ),
+    Test::Of(
+        "objects are found by name",
+        &[
+            NAMESAKES,
+            NAMES,
+            NO_NAMES,
+            NO_PLACES_FOR_THE_FOUND,
+            NOT_FOUND,
+            FOUND,
+        ],
+    ),
+    Test::Of(
+        "no name finds the lowest object without one",
+        &[FOUND_WITHOUT_A_NAME],
+    ),
+];

@@ -1,10 +1,11 @@
 //! Two modules that have a ready thread each.
 //!
-//! There is no test here: tests of services begin with this board. No image is loaded, and no
-//! instruction is executed.
+//! Each test of a service is played on a new board of them. No image is loaded, and no instruction is
+//! executed.
 
 use crate::board::{Area, Board, Running};
-use crate::steps::{Step, play as play_on};
+use crate::steps::{Test, play};
+use crate::{calls, create, numbers, objects, states};
 use region_guard::Rights;
 use std::alloc::Global;
 use std::process::Abort;
@@ -53,9 +54,25 @@ pub fn board(alloc: Global) -> Result<Board, Fail> {
     Board::of_threads(alloc, &AREAS, &RUNNING)
 }
 
-/// Takes tables of steps on a new board.
-pub fn play(rt: &impl Abort, alloc: Global, tables: &[&[Step]]) -> Result<(), Fail> {
-    let mut b = board(alloc)?;
-    play_on(rt, &mut b, tables);
+/// Each test goes right, on a new board.
+fn play_each(rt: &impl Abort, alloc: Global, tests: &[Test]) -> Result<(), Fail> {
+    for test in tests {
+        let mut b = board(alloc)?;
+        play(rt, &mut b, test);
+    }
+    Ok(())
+}
+
+#[test]
+fn services_answer_as_told(rt: HostRuntime) -> Result<(), Fail> {
+    for tests in [
+        objects::TESTS,
+        create::TESTS,
+        numbers::TESTS,
+        states::TESTS,
+        calls::TESTS,
+    ] {
+        play_each(&rt, rt.alloc(), tests)?;
+    }
     Ok(())
 }

@@ -9,10 +9,9 @@ use crate::names::{
     THREAD_PRIORITY_CHANGE, THREAD_RELINQUISH, THREAD_RESET, THREAD_RESUME, THREAD_SUSPEND,
     THREAD_TERMINATE, THREAD_TIME_SLICE_CHANGE,
 };
-use crate::pair::{BLOCK, CODE, DATA, MAIN, OTHER, OTHER_DATA, WORDS, play};
-use crate::steps::{Mark, Step};
+use crate::pair::{BLOCK, CODE, DATA, MAIN, OTHER, OTHER_DATA, WORDS};
+use crate::steps::{Mark, Step, Test};
 use object_grants::SlotState;
-use std::test::Fail;
 use tx_types::State;
 
 /// MAIN allocates the slots 2 and 3 for threads, and writes the block.
@@ -196,91 +195,6 @@ const THE_CALLER_GOES_BEHIND_ITS_PRIORITY: &[Step] = &[
     Step::Numbers(0, [10, 10, 10, 10, 5, 5]),
 ];
 
-#[test]
-fn a_thread_is_suspended_and_resumed(rt: HostRuntime) -> Result<(), Fail> {
-    play(
-        &rt,
-        rt.alloc(),
-        &[
-            SLOTS,
-            AT_15,
-            A_THREAD_IS_SUSPENDED_AND_RESUMED,
-            THE_CALLER_IS_SUSPENDED_AND_RESUMED,
-        ],
-    )
-}
-
-#[test]
-fn a_waiting_thread_is_suspended_later(rt: HostRuntime) -> Result<(), Fail> {
-    play(
-        &rt,
-        rt.alloc(),
-        &[
-            SLOTS,
-            AT_5,
-            A_WAITING_THREAD_IS_SUSPENDED_LATER,
-            ITS_SUSPENSION_IS_LIFTED,
-            ITS_SUSPENSION_ENDS_WITH_IT,
-        ],
-    )
-}
-
-#[test]
-fn a_thread_ends_once(rt: HostRuntime) -> Result<(), Fail> {
-    play(
-        &rt,
-        rt.alloc(),
-        &[SLOTS, AT_5, A_THREAD_ENDS_ONCE, THE_LAST_THREAD_ENDS],
-    )
-}
-
-#[test]
-fn another_thread_is_terminated(rt: HostRuntime) -> Result<(), Fail> {
-    play(
-        &rt,
-        rt.alloc(),
-        &[SLOTS, AT_15, ANOTHER_THREAD_IS_TERMINATED],
-    )
-}
-
-#[test]
-fn a_thread_is_reset(rt: HostRuntime) -> Result<(), Fail> {
-    play(
-        &rt,
-        rt.alloc(),
-        &[
-            SLOTS,
-            AT_5,
-            A_THREAD_IS_RESET,
-            A_THREAD_HAS_ITS_OPENING_REGISTERS,
-        ],
-    )
-}
-
-#[test]
-fn a_thread_is_deleted(rt: HostRuntime) -> Result<(), Fail> {
-    play(
-        &rt,
-        rt.alloc(),
-        &[
-            SLOTS,
-            AT_15,
-            A_THREAD_IS_DELETED,
-            A_GRANTED_THREAD_IS_KEPT,
-            ITS_OWNER_DELETES_IT,
-        ],
-    )
-}
-
-#[test]
-fn the_caller_goes_behind_its_priority(rt: HostRuntime) -> Result<(), Fail> {
-    play(
-        &rt,
-        rt.alloc(),
-        &[SLOTS, AT_10, THE_CALLER_GOES_BEHIND_ITS_PRIORITY],
-    )
-}
-
 /// The services on a thread that a0 names.
 const ON_A_THREAD: &[u32] = &[
     THREAD_DELETE,
@@ -308,11 +222,6 @@ const STILL_READY: &[Step] = &[
     Step::State(2, State::Ready, Mark::None),
 ];
 
-#[test]
-fn a_reference_must_name_a_thread(rt: HostRuntime) -> Result<(), Fail> {
-    play(&rt, rt.alloc(), &[SLOTS, AT_15, NO_THREADS, STILL_READY])
-}
-
 /// MAIN, then a caller of slot 3's second generation, and then module 1's thread.
 const CALLERS: &[Step] = &[
     Step::Call(THREAD_IDENTIFY, [0, 0, 0], MAIN),
@@ -327,7 +236,61 @@ const CALLERS: &[Step] = &[
     Step::Call(THREAD_IDENTIFY, [0, 0, 0], OTHER),
 ];
 
-#[test]
-fn the_caller_is_told_its_reference(rt: HostRuntime) -> Result<(), Fail> {
-    play(&rt, rt.alloc(), &[SLOTS, AT_10, CALLERS])
-}
+/// The tests, each on a new board.
+pub const TESTS: &[Test] = &[
+    Test::Of(
+        "a thread is suspended and resumed",
+        &[
+            SLOTS,
+            AT_15,
+            A_THREAD_IS_SUSPENDED_AND_RESUMED,
+            THE_CALLER_IS_SUSPENDED_AND_RESUMED,
+        ],
+    ),
+    Test::Of(
+        "a waiting thread is suspended later",
+        &[
+            SLOTS,
+            AT_5,
+            A_WAITING_THREAD_IS_SUSPENDED_LATER,
+            ITS_SUSPENSION_IS_LIFTED,
+            ITS_SUSPENSION_ENDS_WITH_IT,
+        ],
+    ),
+    Test::Of(
+        "a thread ends once",
+        &[SLOTS, AT_5, A_THREAD_ENDS_ONCE, THE_LAST_THREAD_ENDS],
+    ),
+    Test::Of(
+        "another thread is terminated",
+        &[SLOTS, AT_15, ANOTHER_THREAD_IS_TERMINATED],
+    ),
+    Test::Of(
+        "a thread is reset",
+        &[
+            SLOTS,
+            AT_5,
+            A_THREAD_IS_RESET,
+            A_THREAD_HAS_ITS_OPENING_REGISTERS,
+        ],
+    ),
+    Test::Of(
+        "a thread is deleted",
+        &[
+            SLOTS,
+            AT_15,
+            A_THREAD_IS_DELETED,
+            A_GRANTED_THREAD_IS_KEPT,
+            ITS_OWNER_DELETES_IT,
+        ],
+    ),
+    Test::Of(
+        "the caller goes behind its priority",
+        &[SLOTS, AT_10, THE_CALLER_GOES_BEHIND_ITS_PRIORITY],
+    ),
+    Test::Of(
+        "a reference must name a thread",
+        &[SLOTS, AT_15, NO_THREADS, STILL_READY],
+    ),
+    Test::Of("the caller is told its reference", &[SLOTS, AT_10, CALLERS]),
+];

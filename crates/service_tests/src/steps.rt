@@ -86,10 +86,21 @@ pub enum Step {
     Callback(u8, Option<u16>),
 }
 
-/// Takes tables of steps on a board. Each has to go right, down to a table's last row.
-pub fn play(rt: &impl Abort, b: &mut Board, tables: &[&[Step]]) {
+/// A test: what it says, and tables of steps.
+pub enum Test {
+    Of(&'static str, &'static [&'static [Step]]),
+}
+
+/// Takes the steps of a test on a board.
+pub fn play(rt: &impl Abort, b: &mut Board, test: &Test) {
+    let Test::Of(name, tables) = *test;
+    play_all(rt, b, name, tables);
+}
+
+/// Each step has to go right, down to a table's last row.
+fn play_all(rt: &impl Abort, b: &mut Board, name: &str, tables: &[&[Step]]) {
     for (i, steps) in tables.iter().enumerate() {
-        assert_eq!(rt; follow(b, steps), None, "table {i}");
+        assert_eq!(rt; follow(b, steps), None, "{name}, table {i}");
     }
 }
 
