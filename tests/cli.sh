@@ -652,15 +652,31 @@ live_report() {
     printf 'end'
 }
 reported() { sed -n '/^report$/,$p' "$work/live"; }
+# raised DEVICE WORD..: of the device, the log that was printed has these words in their order, and no others
+raised() {
+    expect "live: the words of device $1" 0 "${2:+$(printf "I $1 %08x\n" "${@:2}")}" sed -n "/^I $1 /p" "$work/live"
+}
 
 live 'no device' 3
 expect 'live: no device, the text' 0 "$(printf 'S 3\n'; live_report 3 0)" cat "$work/live"
 live 'no word' 3 'a|script = []' 'b|script = []'
 expect 'live: no word, the text' 0 "$(printf 'S 3\n'; live_report 3 0 '0 a taken 0 last 00' '1 b taken 0 last 00')" \
     cat "$work/live"
-live 'more words than the inbox holds' 100 'a|script = [5]\nrepeat = 300' 'b|script = [1, 2, 3]'
-expect 'live: the words of a device' 0 "$(printf 'I 0 00000005\n%.0s' {1..300})" grep '^I 0 ' "$work/live"
-expect 'live: those of another, in order' 0 "$(printf 'I 1 0000000%s\n' 1 2 3)" grep '^I 1 ' "$work/live"
+live 'no word and no step' 0 'a|script = []'
+raised 0
+live 'one word and no step' 0 'a|script = [7]'
+raised 0 7
+live 'the same word of two devices' 100 'a|script = [9, 14]' 'b|script = [14]'
+raised 0 9 14
+raised 1 14
+live 'a script that is taken again' 3 'a|script = [5, 6, 8]\nrepeat = 2' 'b|script = []' 'c|script = [1, 2, 3]'
+raised 0 5 6 8 5 6 8
+raised 1
+raised 2 1 2 3
+printf -v many '%s, ' {1..300}
+live 'more words than the inbox holds' 100 "a|script = [$many]" 'b|script = [1, 2, 3]'
+raised 0 {1..300}
+raised 1 1 2 3
 expect 'live: how many were taken' 0 "$(live_report 100 303 '0 a taken 300 last 0e' '1 b taken 3 last 0e')" reported
 
 # it reads and refuses as a replay does, but for the log
