@@ -8,8 +8,8 @@ use board_values::DevNo;
 use std::sync::atomic::{AtomicU32, Ordering};
 use std::thread;
 
-/// How many lines of devices 0 and 1 were written, how often their pauses were entered, how many
-/// waits were given up, and how many writes failed.
+/// How many lines of devices 0 and 1 were written, how often their pauses were entered, and how many
+/// waits were given up.
 #[derive(Drop)]
 pub struct Marks {
     pub lines_0: AtomicU32,
@@ -18,7 +18,6 @@ pub struct Marks {
     pub pauses_0_1: AtomicU32,
     pub pauses_1_0: AtomicU32,
     pub late: AtomicU32,
-    pub faults: AtomicU32,
 }
 
 /// How often a gate looks at a mark before it gives up.
@@ -42,7 +41,6 @@ impl Marks {
             pauses_0_1: AtomicU32::new(0),
             pauses_1_0: AtomicU32::new(0),
             late: AtomicU32::new(0),
-            faults: AtomicU32::new(0),
         }
     }
 
@@ -58,7 +56,7 @@ impl Marks {
     }
 }
 
-/// A sink in memory that counts the lines of devices 0 and 1, and the writes that failed.
+/// A sink in memory that counts the lines of devices 0 and 1.
 #[derive(Drop)]
 pub struct MarkSink<'a> {
     pub sink: MemSink,
@@ -74,9 +72,7 @@ impl<'a> Sink for MarkSink<'a> {
 
     fn write(&mut self, bytes: &[u8]) -> Result<(), WriteErr> {
         let written = self.sink.write(bytes);
-        if written.is_err() {
-            count(&self.marks.faults);
-        } else if bytes.starts_with("I 0 ".as_bytes()) {
+        if bytes.starts_with("I 0 ".as_bytes()) {
             count(&self.marks.lines_0);
         } else if bytes.starts_with("I 1 ".as_bytes()) {
             count(&self.marks.lines_1);
