@@ -1,16 +1,15 @@
 //! Tables of moves: what happens to a core, one after another, and what is to come of it.
 //!
 //! No clause says that a turn takes a word that waits: the rows on turns refuse one that doesn't.
-ghost use Rattle.std.specs.Prelude.{◌≡◌, ◌+◌, ◌*◌, [], length};
-ghost use Rattle.board_file.specs.Board.{script_words};
-ghost use Rattle.board_file.specs.Rules.{IsBoard};
+ghost use Rattle.std.specs.Prelude.{◌≡◌, [], true};
+ghost use Rattle.kernel_lock.specs.Holds.{Holds};
 
 use crate::bench::Bench;
-use crate::parts::{Parts, boot_parts};
+use crate::parts::{DEVICES, WORDS, booted, first_two};
 use board_core::Machine;
-use irq_inbox::{CpuPass, Inbox};
+use irq_inbox::{CpuPass, DevPass, Inbox};
 use kernel_lock::{Core, Session, Turn};
-use log_lane::{Lane, PutPass};
+use log_lane::{GetPass, Lane, PutPass};
 use std::alloc::Global;
 use std::marker::{Brand, PhantomData};
 use std::process::Abort;
@@ -126,76 +125,73 @@ fn follow<O: Session, R: Wait>(
     Ok(None)
 }
 
-/// A core on which nothing happened yet.
-fn core_of<'a, O: Session>(
+/// Makes all moves on a core of these parts, on which nothing happened yet.
+fn plays_on<O: Session, R: Wait + Abort>(
+    rt: &R,
+    alloc: Global,
     machine: Machine,
-    inbox: &'a Inbox,
+    inbox: &Inbox,
     pass: CpuPass,
-    lane: &'a Lane,
+    devs: (DevPass, DevPass),
+    lane: &Lane,
     put: PutPass,
-) -> Core<'a, O>
-    requires origin { machine.origin ≡ O.origin }
-    requires its_inbox { inbox.now ≡ O.inbox }
-    requires its_lane { lane.now ≡ O.lane }
-    requires fresh { machine.history ≡ [] }
-    requires most { machine.irqs ≡ script_words machine.origin.board.devices }
-    requires rules { IsBoard machine.origin.board }
-    requires capacity { lane.now.most ≡ 2 * machine.irqs + 1 }
-    requires cpu { pass ≡ record {
-      inbox = inbox.now;
-      devices = length machine.origin.board.devices;
-      got = [];
-      gathered = [];
-    } }
-    requires put { put ≡ record { lane = lane.now.id; entries = [] } }
+    get: GetPass,
+    tables: &[&[Move]],
+) -> Result<(), Fail>
+    requires holds { Holds O.origin O.inbox O.lane machine inbox.now pass lane.now put }
+    requires devs { (devs.0.inbox ≡ inbox.now) × (devs.1.inbox ≡ inbox.now) }
+    requires get { (get.live ≡ true) × (get.lane ≡ lane.now.id) }
 {
-    Core {
+    let (one, two) = devs;
+    let core = Core {
         machine,
         inbox,
         pass,
         lane,
         put,
-        session: PhantomData,
-    }
-}
-
-/// Makes all moves on a core of these parts.
-fn plays_on<O: Session, R: Wait + Abort>(
-    rt: &R,
-    alloc: Global,
-    parts: Parts,
-    tables: &[&[Move]],
-) -> Result<(), Fail>
-    requires origin { parts.machine.origin ≡ O.origin }
-    requires inbox { parts.inbox ≡ O.inbox }
-    requires lane { parts.lane ≡ O.lane }
-{
-    let Parts {
-        machine,
+        session: PhantomData::<O>,
+    };
+    let mut bench = Bench {
+        core,
         inbox,
-        cpu,
         one,
         two,
         lane,
-        put,
-        get,
-    } = parts;
-    let core = core_of::<O>(machine, &inbox, cpu, &lane, put);
-    let mut bench = Bench {
-        core,
-        inbox: &inbox,
-        one,
-        two,
-        lane: &lane,
         get,
     };
     make_all(rt, alloc, &mut bench, tables)
 }
 
+/// Makes all moves on a core of its own, over this inbox with its passes.
+#[tactic(auto, using(crate::proofs::Cores::new_core))]
+fn plays_over<R: Wait + Abort>(
+    rt: &R,
+    alloc: Global,
+    inbox: &Inbox,
+    pass: CpuPass,
+    devs: (DevPass, DevPass),
+    tables: &[&[Move]],
+) -> Result<(), Fail>
+    requires pass { pass ≡ record {
+      inbox = inbox.now;
+      devices = 2;
+      got = [];
+      gathered = [];
+    } }
+    requires devs { (devs.0.inbox ≡ inbox.now) × (devs.1.inbox ≡ inbox.now) }
+{
+    let (lane, put, get) = Lane::new(rt, alloc, 2 * WORDS + 1)?;
+    let machine = booted(alloc)?;
+    plays_on::<Brand, R>(
+        rt, alloc, machine, inbox, pass, devs, &lane, put, get, tables,
+    )
+}
+
 /// Makes all moves on a core of its own.
 fn plays<R: Wait + Abort>(rt: &R, alloc: Global, tables: &[&[Move]]) -> Result<(), Fail> {
-    let parts = boot_parts(rt, alloc)?;
-    plays_on::<Brand, R>(rt, alloc, parts, tables)
+    let (inbox, pass, devs) = Inbox::new(rt, alloc, DEVICES)?;
+    let devs = first_two(&inbox, devs).ok_or("a board of two devices")?;
+    plays_over(rt, alloc, &inbox, pass, devs, tables)
 }
 
 /// Words that wait are taken one by one, in the order raised, before any step.

@@ -1,18 +1,22 @@
-//! A booted board of one module and two devices, with an inbox and a lane of its own.
+//! A booted board of one module and two devices, and an inbox with the passes of two devices.
 //!
-//! No event is made here.
-ghost use Rattle.std.specs.Prelude.{◌≡◌, ◌+◌, ◌*◌, true, [], length, IfOk, IfSome};
+//! No event is made here. A machine has so many parts that each way on which one is let go is long to
+//! prove; so it is booted last, from a board that is only lent.
+ghost use Rattle.std.specs.Prelude.{◌≡◌, [], length, IfOk, IfSome};
 ghost use Rattle.board_file.specs.Board.{script_words};
 ghost use Rattle.board_file.specs.Rules.{IsBoard};
 ghost use Rattle.irq_inbox.specs.Seen.{AreAllOf};
 
 use board_core::Machine;
 use board_file::{Board, read_board};
-use irq_inbox::{CpuPass, DevPass, Inbox};
-use log_lane::{GetPass, Lane, PutPass};
+use irq_inbox::{DevPass, Inbox};
 use std::alloc::{AllocError, Global};
-use std::sync::Wait;
 use std::test::Fail;
+
+/// How many devices the board has, and how many words these have together.
+pub const DEVICES: u8 = 2;
+
+pub const WORDS: u32 = 5;
 
 /// Three words of device 0 and two of device 1, and four steps.
 const BOARD: &str = "ram = 1048576
@@ -63,50 +67,37 @@ fn image(alloc: Global) -> Result<Vec<u8>, AllocError> {
     Ok(bytes)
 }
 
-/// What a core is made of, before the first event; its devices' passes, and the one that gets.
-#[derive(Drop)]
-pub struct Parts {
-    pub machine: Machine,
-    pub inbox: Inbox,
-    pub cpu: CpuPass,
-    pub one: DevPass,
-    pub two: DevPass,
-    pub lane: Lane,
-    pub put: PutPass,
-    pub get: GetPass,
-    pub ghost fresh: { machine.history ≡ [] },
-    pub ghost most: { machine.irqs ≡ script_words machine.origin.board.devices },
-    pub ghost rules: { IsBoard machine.origin.board },
-    pub ghost cpu_of: { cpu ≡ record {
-      inbox = inbox;
-      devices = length machine.origin.board.devices;
-      got = [];
-      gathered = [];
-    } },
-    pub ghost one_of: { one.inbox ≡ inbox },
-    pub ghost two_of: { two.inbox ≡ inbox },
-    pub ghost capacity: { lane.most ≡ 2 * machine.irqs + 1 },
-    pub ghost put_of: { put ≡ record { lane = lane.id; entries = [] } },
-    pub ghost get_of: { get ≡ record { live = true; lane = lane.id; entries = [] } },
+/// The board with the images of its modules, booted.
+fn boot(alloc: Global, board: &Board, images: &[Vec<u8>]) -> Result<Machine, Fail>
+    requires rules { IsBoard board.now }
+    ensures rules { IfOk result (λ m. IsBoard m.origin.board) }
+    ensures fresh { IfOk result (λ m. m.history ≡ []) }
+    ensures devices { IfOk result (λ m. length m.origin.board.devices ≡ 2) }
+    ensures words { IfOk result (λ m. script_words m.origin.board.devices ≡ 5) }
+    ensures room { IfOk result (λ m. m.irqs ≡ 5) }
+{
+    let counts = (board.modules.items().len(), board.devices.items().len());
+    if counts != (images.len(), usize::from(DEVICES)) || board.words() != WORDS {
+        return Err(Fail::from("a board of other modules or devices"));
+    }
+    Ok(Machine::boot(alloc, board, images, WORDS)?)
 }
 
-/// The board, booted.
-fn booted(alloc: Global, board: &Board, most: u32) -> Result<Machine, Fail>
-    requires rules { IsBoard board.now }
-    requires most { most ≡ script_words board.now.devices }
-    ensures board { IfOk result (λ m. m.origin.board ≡ board.now) }
+/// The board of this file, booted.
+pub fn booted(alloc: Global) -> Result<Machine, Fail>
+    ensures rules { IfOk result (λ m. IsBoard m.origin.board) }
     ensures fresh { IfOk result (λ m. m.history ≡ []) }
-    ensures most { IfOk result (λ m. m.irqs ≡ script_words m.origin.board.devices) }
+    ensures devices { IfOk result (λ m. length m.origin.board.devices ≡ 2) }
+    ensures words { IfOk result (λ m. script_words m.origin.board.devices ≡ 5) }
+    ensures room { IfOk result (λ m. m.irqs ≡ 5) }
 {
     let images = vec![in alloc; image(alloc)?]?;
-    if images.len() != board.modules.items().len() {
-        return Err(Fail::from("a board of one module"));
-    }
-    Ok(Machine::boot(alloc, board, &images, most)?)
+    let board = read_board(alloc, BOARD.as_bytes()).map_err(|_| "not a board")?;
+    boot(alloc, &board, &images)
 }
 
 /// The passes of the first two devices of an inbox.
-fn first_two(inbox: &Inbox, devs: Vec<DevPass>) -> Option<(DevPass, DevPass)>
+pub fn first_two(inbox: &Inbox, devs: Vec<DevPass>) -> Option<(DevPass, DevPass)>
     requires { AreAllOf inbox.now (length devs.items) devs.items }
     ensures one { IfSome result (λ p. p.0.inbox ≡ inbox.now) }
     ensures two { IfSome result (λ p. p.1.inbox ≡ inbox.now) }
@@ -116,25 +107,4 @@ fn first_two(inbox: &Inbox, devs: Vec<DevPass>) -> Option<(DevPass, DevPass)>
     let one = passes.next()?;
     let two = passes.next()?;
     Some((one, two))
-}
-
-/// All of it of the board of this file.
-pub fn boot_parts<R: Wait>(rt: &R, alloc: Global) -> Result<Parts, Fail> {
-    let board = read_board(alloc, BOARD.as_bytes()).map_err(|_| "not a board")?;
-    let most = board.words();
-    let devices = board.devices.items().len() as u8;
-    let machine = booted(alloc, &board, most)?;
-    let (inbox, cpu, devs) = Inbox::new(rt, alloc, devices)?;
-    let (lane, put, get) = Lane::new(rt, alloc, 2 * most + 1)?;
-    let (one, two) = first_two(&inbox, devs).ok_or("a board of two devices")?;
-    Ok(Parts {
-        machine,
-        inbox,
-        cpu,
-        one,
-        two,
-        lane,
-        put,
-        get,
-    })
 }

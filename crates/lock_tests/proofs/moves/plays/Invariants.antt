@@ -1,5 +1,0 @@
-use Rattle.lock_tests.proofs.moves.plays.Given as goal
-
--- the session of this call is that of its parts
-abbrev pub ghosts-plays_on : goal.ghosts-plays_on
-ghosts-plays_on g a = record { origin = a.parts.machine.origin; inbox = a.parts.inbox; lane = a.parts.lane }
