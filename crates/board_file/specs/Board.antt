@@ -59,9 +59,9 @@ device_of part earlier = do
   words ← required words_of part (codes "script")
   repeat ← optional 1 (in_range 1 interrupt_limit 1) part (codes "repeat")
   script ← named (key_path part.path (codes "script"))
-    (script_within (script_words earlier) repeat words)
+      (script_within (script_words earlier) repeat words)
   rest ← nothing_else
-    (codes "name" ∷ codes "action" ∷ codes "target" ∷ codes "script" ∷ codes "repeat" ∷ []) part
+      (codes "name" ∷ codes "action" ∷ codes "target" ∷ codes "script" ∷ codes "repeat" ∷ []) part
   Ok (record { name = name; action = action; target = target; script = script })
 
 -- the number of the module of a name
@@ -92,7 +92,7 @@ board_of file = let top : Part = record { path = []; fields = file } in do
   show_entries ← optional no_items (array_within 0 show_limit) top (codes "show")
   shows ← entries (λ part earlier. show_of modules part) (codes "show") [] show_entries
   rest ← nothing_else
-    (codes "ram" ∷ codes "steps" ∷ codes "module" ∷ codes "device" ∷ codes "show" ∷ []) top
+      (codes "ram" ∷ codes "steps" ∷ codes "module" ∷ codes "device" ∷ codes "show" ∷ []) top
   Ok (record {
     ram = ram;
     steps = steps;

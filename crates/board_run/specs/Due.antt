@@ -23,7 +23,7 @@ unfoldable pub image_ran : ℕ → List ℕ → Result Ran Stop
 image_ran most bytes = do
   p ← refused_image 0 (preamble bytes)
   let at = alone_at p in
-    Ok (memory_ran most (alone 4194304 p at bytes) (opening p at p.start false))
+      Ok (memory_ran most (alone 4194304 p at bytes) (opening p at p.start false))
 
 unfoldable pub hart_ran : List ℕ → ℕ → (List ℕ → Option (List ℕ)) → Result Ran Stop
 hart_ran name most at = do
