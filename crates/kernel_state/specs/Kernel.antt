@@ -1,7 +1,7 @@
 -- The kernel's state: object slots, threads, the scheduler, where each module's threads begin, waits, timeouts and the clock.
 use Rattle.std.specs.Prelude.{ℕ, ◌==◌, ◌&&◌, Bool, min, List, [], slice_set, replicate, Option, None, Some, if◌then◌else◌}
 use Rattle.std.specs.List.{slice_index_or}
-use Rattle.tx_types.specs.Limits.{module_limit, slot_limit}
+use Rattle.tx_types.specs.Limits.{module_limit, priority_count, slot_limit}
 use Rattle.tx_types.specs.declared.kind.Kind.{Kind}
 use Rattle.tx_types.specs.declared.kind.Kind.TheVariants.{Thread as ThreadKind}
 use Rattle.object_grants.specs.Slot.{free_slot, is_in, is_kind}
@@ -81,7 +81,7 @@ removed_thread k t = removed (without_callback k t) t
 -- no object, no thread, and no module has a place yet; nothing waits, nothing is armed, and no tick came
 abbrev pub blank_kernel : Kernel
 blank_kernel = record {
-  ready = new_sched 32;
+  ready = new_sched priority_count;
   objects = replicate slot_limit (free_slot 0);
   threads = replicate slot_limit blank_thread;
   spots = replicate module_limit blank_spot;

@@ -172,7 +172,7 @@ RunningIsReady = (k : Kernel) (t : ℕ) → IsSound k → k.ready.run ≡ Some t
 abbrev pub ReadyIsThread : Type 0
 ReadyIsThread = (k : Kernel) (t : ℕ) → IsSound k → is_ready k.ready t ≡ true → is_thread k t ≡ true
 
--- a thread of a sound kernel has its facts, a number below 256, and its effective pair in the scheduler
+-- a thread of a sound kernel has its facts, a number of a slot, and its effective pair in the scheduler
 abbrev pub ThreadIsRight : Type 0
 ThreadIsRight = (k : Kernel) (t : ℕ) → IsSound k → is_thread k t ≡ true → (t < slot_limit) × IsRight [] k t
 

@@ -1,5 +1,6 @@
 -- What a move of the scheduler leaves of all threads but one.
 use Rattle.std.specs.Prelude.{◌≡◌, ◌≢◌, ℕ, ◌<◌, ◌≤◌, true, false, IsSome}
+use Rattle.tx_types.specs.Limits.{slot_limit}
 use Rattle.ready_maps.specs.Kept.{IsKept}
 use Rattle.ready_maps.specs.Moves.{readied, unreadied, yielded, threshold_set, priority_set}
 use Rattle.ready_maps.specs.Sched.{Sched, pr, th, is_ready}
@@ -44,7 +45,7 @@ pub record SetsPriority (s : Sched) (t p q : ℕ) : Type 0 where
   pub threshold : th (priority_set s t p q) t ≡ q
 
 abbrev pub ReadyChangesOne : Type 0
-ReadyChangesOne = (s : Sched) (t : ℕ) → IsKept s → t < 256 → is_ready s t ≡ false → Readies s t
+ReadyChangesOne = (s : Sched) (t : ℕ) → IsKept s → t < slot_limit → is_ready s t ≡ false → Readies s t
 
 abbrev pub UnreadyChangesOne : Type 0
 UnreadyChangesOne = (s : Sched) (t : ℕ) → IsKept s → is_ready s t ≡ true → Unreadies s t
@@ -54,9 +55,9 @@ YieldChangesNone = (s : Sched) (t : ℕ) → IsKept s → IsSome s.run → Yield
 
 abbrev pub ThresholdChangesOne : Type 0
 ThresholdChangesOne =
-    (s : Sched) (t threshold : ℕ) → IsKept s → t < 256 → threshold ≤ pr s t → SetsThreshold s t threshold
+    (s : Sched) (t threshold : ℕ) → IsKept s → t < slot_limit → threshold ≤ pr s t → SetsThreshold s t threshold
 
 abbrev pub PriorityChangesOne : Type 0
 PriorityChangesOne =
-    (s : Sched) (t priority threshold : ℕ) → IsKept s → t < 256 → threshold ≤ priority → priority < s.levels
+    (s : Sched) (t priority threshold : ℕ) → IsKept s → t < slot_limit → threshold ≤ priority → priority < s.levels
     → SetsPriority s t priority threshold

@@ -1,6 +1,6 @@
 //! The registers of a call: what a thread asks for, and where it finds the answer.
 //!
-//! By the RISC-V calling convention a0 to a7 are x10 to x17.
+//! Which registers a0 to a7 are is said in `rv_core`.
 ghost use Rattle.std.specs.Prelude.{◌≡◌};
 ghost use Rattle.kernel_state.specs.Registers.{number_asked, arguments, with_a0};
 ghost use Rattle.kernel_state.specs.Kernel.{thread};
@@ -10,13 +10,14 @@ use crate::answer::Args;
 use crate::kernel::Kernel;
 use crate::laws::a_kernel_stays_sound;
 use rv_core::Hart;
+use rv_core::registers::{A0, A1, A2, A3, A4, A5, A6, A7};
 use tx_types::ThreadNo;
 
 /// The number of what is asked for, a7.
 pub fn number_asked(hart: &Hart) -> u32
     ensures { result ≡ number_asked hart.now }
 {
-    hart.get(17)
+    hart.get(A7)
 }
 
 /// The arguments of a call, a0 to a6.
@@ -24,13 +25,13 @@ pub fn arguments(hart: &Hart) -> Args
     ensures { result ≡ arguments hart.now }
 {
     [
-        hart.get(10),
-        hart.get(11),
-        hart.get(12),
-        hart.get(13),
-        hart.get(14),
-        hart.get(15),
-        hart.get(16),
+        hart.get(A0),
+        hart.get(A1),
+        hart.get(A2),
+        hart.get(A3),
+        hart.get(A4),
+        hart.get(A5),
+        hart.get(A6),
     ]
 }
 
@@ -42,6 +43,6 @@ impl Kernel {
         ensures sound { IsSound self.new }
     {
         a_kernel_stays_sound();
-        self.hart_mut(t).set(10, value);
+        self.hart_mut(t).set(A0, value);
     }
 }

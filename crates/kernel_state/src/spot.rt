@@ -22,23 +22,25 @@ pub struct Spots {
 
 impl Model for Spots {
     ghost use Rattle.std.specs.Prelude.{◌≡◌, List, length};
+    ghost use Rattle.tx_types.specs.Limits.{module_limit};
     ghost use Rattle.kernel_state.specs.declared.spot.Spot.{Spot};
 
     ghost Value = { List Spot };
 
     ghost view = { λ s. s.entries.items };
 
-    ghost invariant = { λ s. length s.entries.items ≡ 16 };
+    ghost invariant = { λ s. length s.entries.items ≡ module_limit };
 }
 
 impl Spots {
     ghost use Rattle.std.specs.Prelude.{◌≡◌, length, IfOk, replicate, slice_set};
+    ghost use Rattle.tx_types.specs.Limits.{module_limit};
     ghost use Rattle.std.specs.List.{slice_index_or};
     ghost use Rattle.kernel_state.specs.Spot.{blank_spot};
 
     /// No module has a spot yet.
     pub fn new(alloc: Global) -> Result<Spots, NoMemory>
-        ensures { IfOk result (λ s. s ≡ replicate 16 blank_spot) }
+        ensures { IfOk result (λ s. s ≡ replicate module_limit blank_spot) }
     {
         let blank = Spot {
             shell: 0,
@@ -52,7 +54,7 @@ impl Spots {
     /// The spot of a module.
     pub fn at(&self, m: ModNo) -> Spot
         ensures value { result ≡ slice_index_or self.now m blank_spot }
-        ensures size { length self.now ≡ 16 }
+        ensures size { length self.now ≡ module_limit }
     {
         self.entries[m.number() as usize]
     }

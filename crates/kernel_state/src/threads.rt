@@ -14,17 +14,19 @@ pub struct Threads {
 
 impl Model for Threads {
     ghost use Rattle.std.specs.Prelude.{◌≡◌, List, length};
+    ghost use Rattle.tx_types.specs.Limits.{slot_limit};
     ghost use Rattle.kernel_state.specs.declared.thread.Thread.{Thread};
 
     ghost Value = { List Thread };
 
     ghost view = { λ t. t.entries.items };
 
-    ghost invariant = { λ t. length t.entries.items ≡ 256 };
+    ghost invariant = { λ t. length t.entries.items ≡ slot_limit };
 }
 
 impl Threads {
     ghost use Rattle.std.specs.Prelude.{◌≡◌, length, IfOk, replicate, slice_set};
+    ghost use Rattle.tx_types.specs.Limits.{slot_limit};
     ghost use Rattle.std.specs.List.{slice_index_or};
     ghost use Rattle.std.specs.Borrow.{sem};
     ghost use Rattle.kernel_state.specs.Thread.{blank_thread};
@@ -32,7 +34,7 @@ impl Threads {
 
     /// No thread was made yet.
     pub fn new(alloc: Global) -> Result<Threads, NoMemory>
-        ensures { IfOk result (λ t. t ≡ replicate 256 blank_thread) }
+        ensures { IfOk result (λ t. t ≡ replicate slot_limit blank_thread) }
     {
         let mut entries = Vec::with_capacity(alloc, 256)?;
         for _ in 0..256u16 {
@@ -45,7 +47,7 @@ impl Threads {
     #[inline]
     pub fn at(&self, t: ThreadNo) -> &Thread
         ensures value { result.now ≡ slice_index_or self.now t blank_thread }
-        ensures size { length self.now ≡ 256 }
+        ensures size { length self.now ≡ slot_limit }
     {
         &self.entries[t.place()]
     }

@@ -1,5 +1,6 @@
 -- The halt of a module: all that it has in the kernel ends.
 use Rattle.std.specs.Prelude.{ℕ, zero, suc, ◌==◌, ◌&&◌, if◌then◌else◌}
+use Rattle.tx_types.specs.Limits.{slot_limit}
 use Rattle.tx_types.specs.declared.state.State.TheVariants.{Terminated}
 use Rattle.object_grants.specs.Slot.{owns}
 use Rattle.object_grants.specs.Table.{slot, after_free, after_revoke}
@@ -19,7 +20,7 @@ abbrev pub one_more : (Kernel → Memory → ℕ → Change) → Change → ℕ 
 one_more change c n = followed c (λ k g. change k g n)
 
 abbrev pub for_each_slot : (Kernel → Memory → ℕ → Change) → Kernel → Memory → Change
-for_each_slot change k g = each_below 256 (one_more change) (quiet k g)
+for_each_slot change k g = each_below slot_limit (one_more change) (quiet k g)
 
 -- a thread of the module is terminated, unless it is over already
 abbrev pub ending : ℕ → Kernel → Memory → ℕ → Change

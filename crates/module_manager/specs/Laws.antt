@@ -1,5 +1,6 @@
 -- A halt ends its module and nothing of another's; a start writes its module's data alone.
 use Rattle.std.specs.Prelude.{◌≡◌, ◌≢◌, ℕ, ◌<◌, true, false, List, None}
+use Rattle.tx_types.specs.Limits.{slot_limit, module_limit}
 use Rattle.flat_ram.specs.Laws.{IsOutside}
 use Rattle.object_grants.specs.Slot.{owns, is_granted, without_grant}
 use Rattle.object_grants.specs.Table.{slot}
@@ -36,7 +37,7 @@ HaltLeavesThreads =
 -- a slot that isn't the module's loses the module's grant, and nothing else
 abbrev pub HaltSparesSlots : Type 0
 HaltSparesSlots =
-    (k : Kernel) (g : Memory) (m o : ℕ) → IsSound k → o < 256 → owns m (slot k.objects o) ≡ false
+    (k : Kernel) (g : Memory) (m o : ℕ) → IsSound k → o < slot_limit → owns m (slot k.objects o) ≡ false
     → slot (halted k g m).kernel.objects o ≡ without_grant m (slot k.objects o)
 
 -- where a kernel serves, it serves after a halt
@@ -55,7 +56,7 @@ HaltEndsGrants =
 
 abbrev pub HaltEndsCallback : Type 0
 HaltEndsCallback =
-    (k : Kernel) (g : Memory) (m : ℕ) → IsSound k → m < 16 → (spot (halted k g m).kernel m).callback ≡ None
+    (k : Kernel) (g : Memory) (m : ℕ) → IsSound k → m < module_limit → (spot (halted k g m).kernel m).callback ≡ None
 
 -- making and starting the threads of a module changes no byte
 abbrev pub BeginningKeepsMemory : Type 0

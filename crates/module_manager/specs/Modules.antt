@@ -1,6 +1,7 @@
 -- Modules: their preambles, their places and their states.
 use Rattle.std.specs.Prelude.{◌≡◌, ℕ, ◌≤◌, Bool, true, false, List, [], length, All, Option, None, Some, slice_set}
 use Rattle.std.specs.List.{slice_index_or}
+use Rattle.tx_types.specs.Limits.{module_limit}
 use Rattle.module_loader.specs.Opening.{LiesAt, Begins}
 use Rattle.module_loader.specs.Want.{HasSizes}
 use Rattle.module_loader.specs.declared.placement.Placed.{Placed}
@@ -57,5 +58,5 @@ pub record IsPlaced (p : Preamble) (at : Placed) : Type 0 where
 
 -- what holds of every table of modules
 pub record AreModules (rows : List Module) : Type 0 where
-  pub at_most : length rows ≤ 16
+  pub at_most : length rows ≤ module_limit
   pub placed : All (λ r. IsPlaced r.preamble r.placed) rows

@@ -4,6 +4,7 @@
 //! is never started again; no call stops one.
 ghost use Rattle.std.specs.Prelude.{◌≡◌, ◌<◌, ◌≤◌, true, length, All, IfOk, map};
 ghost use Rattle.std.specs.Option.{option_map};
+ghost use Rattle.tx_types.specs.Limits.{module_limit};
 ghost use Rattle.module_preamble.specs.Words.{has_callback};
 ghost use Rattle.module_loader.specs.Want.{want_of};
 ghost use Rattle.region_guard.specs.Memory.{may};
@@ -46,7 +47,7 @@ impl Model for Manager {
 impl Manager {
     /// A row for each preamble and place, in their order; no module was started.
     pub fn new(alloc: Global, rows: &[(Preamble, Placed)]) -> Result<Manager, NoMemory>
-        requires at_most { length rows.now ≤ 16 }
+        requires at_most { length rows.now ≤ module_limit }
         requires placed { All (λ r. IsPlaced r.0 r.1) rows.now }
         ensures { IfOk result (λ m. m ≡ map loaded rows.now) }
     {
@@ -64,7 +65,7 @@ impl Manager {
     /// How many modules there are.
     pub fn len(&self) -> u8
         ensures same { result ≡ length self.now }
-        ensures at_most { result ≤ 16 }
+        ensures at_most { result ≤ module_limit }
     {
         self.rows.len() as u8
     }

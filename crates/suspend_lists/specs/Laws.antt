@@ -2,6 +2,7 @@
 use Rattle.std.specs.Prelude.{ℕ, ◌≡◌, ◌≢◌, ◌+◌, ◌<◌, ◌≤◌, ◌==◌, nat_eq, nat_lt, Bool, true, false, List, [], ◌∷◌, ◌++◌, count_by, Option, None, Some, IfSome, IsSome, if◌then◌else◌, option_to_list, ⊤}
 use Rattle.std.specs.List.{IsDistinct}
 use Rattle.std.specs.Option.{option_map, option_map_or}
+use Rattle.tx_types.specs.Limits.{slot_limit}
 use Rattle.tx_types.specs.End.{WaitEnd}
 use Rattle.tx_types.specs.declared.waits.End.{End}
 use Rattle.tx_types.specs.declared.waits.End.TheVariants.{Satisfied, TimedOut, Aborted, Deleted, Gone}
@@ -26,7 +27,7 @@ called w (ToFront t) = put_first w t
 -- when a call may be made
 abbrev pub MayCall : WaitTable → Call → Type 0
 MayCall w (Begin t x) =
-    (t < 256) × (pending w t ≡ None) × IfSome (place x.on) (λ p. p < place_count)
+    (t < slot_limit) × (pending w t ≡ None) × IfSome (place x.on) (λ p. p < place_count)
 MayCall w (Finish t e) = IsSome (pending w t)
 MayCall w (ToFront t) = IsSome (place_of w t)
 

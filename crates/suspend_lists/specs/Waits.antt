@@ -2,6 +2,7 @@
 use Rattle.std.specs.Prelude.{ℕ, ◌≡◌, ◌≢◌, ◌+◌, ◌<◌, ◌≤◌, ◌==◌, nat_eq, Bool, false, List, [], ◌∷◌, ◌++◌, length, replicate, count_by, slice_get, slice_set, is_some, Option, None, Some}
 use Rattle.std.specs.List.{slice_index_or, IsDistinct}
 use Rattle.std.specs.Option.{option_map, option_map_or, option_and_then}
+use Rattle.tx_types.specs.Limits.{slot_limit}
 use Rattle.tx_types.specs.declared.waits.End.{End}
 use Rattle.tx_types.specs.declared.waits.End.TheVariants.{Satisfied, TimedOut, Aborted, Deleted, Gone}
 use Rattle.tx_types.specs.declared.waits.Totals.{Totals}
@@ -21,7 +22,7 @@ abbrev pub new_table : WaitTable
 new_table = record {
   totals = record { begun = 0; satisfied = 0; timed_out = 0; aborted = 0; deleted = 0; gone = 0 };
   lists = replicate place_count [];
-  waits = replicate 256 None;
+  waits = replicate slot_limit None;
 }
 
 -- the wait that a thread is in, with its number; the two parts of it, and the place of the wait
@@ -120,7 +121,7 @@ waits_at w p t = option_map_or (λ q. q == p) (place_of w t) false
 -- in no other. Each wait has a number of its own, below how many began.
 pub record IsTable (w : WaitTable) : Type 0 where
   pub places : length w.lists ≡ place_count
-  pub threads : length w.waits ≡ 256
+  pub threads : length w.waits ≡ slot_limit
   pub each_once : (p : ℕ) → IsDistinct nat_eq (waiters w (Some p))
   pub at_its_place : (p t : ℕ) → has t (waiters w (Some p)) ≡ waits_at w p t
   pub numbers_below : (t n : ℕ) → number_of w t ≡ Some n → n < w.totals.begun

@@ -6,6 +6,7 @@ use Rattle.call_arguments.specs.Words.{nth_word}
 use Rattle.region_guard.specs.Memory.{Memory}
 use Rattle.region_guard.specs.declared.region.Access.TheVariants.{Fetch, Store}
 use Rattle.rv_core.specs.Hart.{HartState}
+use Rattle.rv_core.specs.Registers.{a0, a1, gp, sp}
 use Rattle.kernel_state.specs.Kernel.{module_of, placed, spot}
 use Rattle.kernel_state.specs.Change.{Change, quiet}
 use Rattle.kernel_state.specs.Outcome.{refused}
@@ -38,12 +39,13 @@ block_refusal k g by b =
     (option_or (refused (nat_lt b.priority b.threshold) thresh_error)
     (refused (nat_lt 1 b.auto) start_error)))))
 
--- pc at the module's shell entry; sp (x2) the top of the stack, gp (x3) the module's data base, a0 (x10) the entry, a1 (x11)
+-- pc at the module's shell entry; sp the top of the stack, gp the module's data base, a0 the entry, a1
 -- the input, all else 0
 abbrev pub opening : Kernel → ℕ → ThreadBlock → HartState
 opening k m b = record {
   pc = (spot k m).shell;
-  x = slice_set (slice_set (slice_set (slice_set (replicate 32 0) 2 ((b.stack + b.size) % 2 ^ 32 / 16 * 16)) 3 (spot k m).data_base) 10 b.entry) 11 b.input;
+  x = slice_set (slice_set (slice_set (slice_set (replicate 32 0)
+    sp ((b.stack + b.size) % 2 ^ 32 / 16 * 16)) gp (spot k m).data_base) a0 b.entry) a1 b.input;
 }
 
 abbrev pub spec_of : Kernel → ℕ → ThreadBlock → ThreadSpec

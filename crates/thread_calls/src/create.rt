@@ -17,19 +17,8 @@ use call_arguments::{name_at, nth_word};
 use kernel_state::{Answer, Args, Kernel, ThreadSpec, start_thread};
 use region_guard::{Access, Guard};
 use rv_core::Hart;
+use rv_core::registers::{A0, A1, GP, SP};
 use tx_types::{Code, Kind, ModNo, Name, ObjNo, Prio, ThreadNo, Thresh};
-
-/// The number of the stack pointer's register.
-const SP: usize = 2;
-
-/// The number of the global pointer's register.
-const GP: usize = 3;
-
-/// The number of the register of the first argument.
-const A0: usize = 10;
-
-/// The number of the register of the second argument.
-const A1: usize = 11;
 
 /// The words that describe a thread to be created: its entry and what it is given, its stack, its
 /// numbers, and whether it starts at once.
@@ -183,9 +172,9 @@ fn opening(k: &Kernel, m: ModNo, b: &ThreadBlock) -> Hart
 {
     let spot = k.spot(m);
     let mut x = [0; 32];
-    x[SP] = b.stack.wrapping_add(b.size) / 16 * 16;
-    x[GP] = spot.data_base;
-    x[A0] = b.entry;
-    x[A1] = b.input;
+    x[SP as usize] = b.stack.wrapping_add(b.size) / 16 * 16;
+    x[GP as usize] = spot.data_base;
+    x[A0 as usize] = b.entry;
+    x[A1 as usize] = b.input;
     Hart { pc: spot.shell, x }
 }
