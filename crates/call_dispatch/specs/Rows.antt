@@ -1,5 +1,5 @@
 -- The rows of all services, a list from each crate of calls, and what a call of a number does.
-use Rattle.std.specs.Prelude.{ℕ, Bool, true, List, [], ◌∷◌, Option, None, Some, map, not, ◌&&◌}
+use Rattle.std.specs.Prelude.{ℕ, Bool, true, List, [], ◌∷◌, Option, None, Some, not, ◌&&◌}
 use Rattle.ready_maps.specs.Sched.{has}
 use Rattle.region_guard.specs.Memory.{Memory}
 use Rattle.kernel_state.specs.Kernel.{module_of}

@@ -5,6 +5,7 @@
 //! wait is ever given the same.
 ghost use Rattle.std.specs.Prelude.{◌≡◌, ◌<◌, ◌≤◌, ◌+◌, ◌-◌, ◌^◌, slice_index_or, None, Some, IfOk, IfSome, IsSome, length, slice_set, ℕ, true};
 ghost use Rattle.std.specs.Option.{option_copied};
+ghost use Rattle.tx_types.specs.Limits.{slot_limit};
 ghost use Rattle.suspend_lists.specs.Wait.{place, place_count};
 ghost use Rattle.suspend_lists.specs.ThreadList.{has};
 ghost use Rattle.suspend_lists.specs.Waits.{WaitTable, IsTable, new_table, waiters, waiters_in, joined, left, put_ahead, pending, wait_of, number_of, place_of, first_at, after, restored, begun, ended, put_first, counted, pending_count, ended_count, IsFreeNumber};
@@ -47,7 +48,7 @@ impl Waits {
         let lists = empty_lists(alloc)?;
         let waits = no_waits(alloc)?;
         Ok(Waits {
-            totals: NONE,
+            totals: Totals::NONE,
             lists,
             waits,
         })
@@ -151,16 +152,6 @@ impl Waits {
     }
 }
 
-/// Nothing began.
-const NONE: Totals = Totals {
-    begun: 0,
-    satisfied: 0,
-    timed_out: 0,
-    aborted: 0,
-    deleted: 0,
-    gone: 0,
-};
-
 /// A list without a thread for each place.
 fn empty_lists(alloc: Global) -> Result<Vec<ThreadList>, NoMemory>
     ensures { IfOk result (λ v. v.items ≡ new_table.lists) }
@@ -185,7 +176,7 @@ fn no_waits(alloc: Global) -> Result<Vec<Option<Pending>>, NoMemory>
 
 /// Takes the wait of thread t.
 fn take_wait(waits: &mut Vec<Option<Pending>>, t: ThreadNo) -> Wait
-    requires table { length waits.old.items ≡ 256 }
+    requires table { length waits.old.items ≡ slot_limit }
     requires waits { IsSome (slice_index_or waits.old.items t None) }
     ensures after { waits.new.items ≡ slice_set waits.old.items t None }
     ensures wait { IfSome (slice_index_or waits.old.items t None) (λ p. p.wait ≡ result) }
@@ -199,7 +190,7 @@ fn take_wait(waits: &mut Vec<Option<Pending>>, t: ThreadNo) -> Wait
 /// Thread t goes last at its place.
 fn join(lists: &mut Vec<ThreadList>, on: On, t: ThreadNo)
     requires table { length lists.old.items ≡ place_count }
-    requires room { length (waiters_in lists.old.items (place on)) < 256 }
+    requires room { length (waiters_in lists.old.items (place on)) < slot_limit }
     ensures after { lists.new.items ≡ joined lists.old.items (place on) t }
     ensures place { IfSome (place on) (λ p. p < place_count) }
 {
