@@ -3,6 +3,7 @@
 //! A board's kernel is sound, so a test may make any call at any time. What a call asks for that a board
 //! can't give is left out, and the step that makes it fails.
 ghost use Rattle.std.specs.Prelude.{◌≡◌, IfOk};
+ghost use Rattle.soft_timers.specs.Timers.{IsRunning};
 ghost use Rattle.kernel_state.specs.Serves.{Serves};
 ghost use Rattle.kernel_state.specs.Sound.{IsSound, IsWait};
 
@@ -128,9 +129,15 @@ impl Board {
 }
 
 fn kernel(alloc: Global) -> Result<Kernel, Fail>
-    ensures { IfOk result IsSound }
+    ensures sound { IfOk result IsSound }
+    ensures running { IfOk result (λ k. IsRunning k.wheel) }
 {
-    Kernel::new(alloc).map_err(|_| "no memory".into())
+    let k = Kernel::new(alloc).map_err(|_| "no memory")?;
+    if k.wheel.is_running() {
+        Ok(k)
+    } else {
+        Err("a timeout is late".into())
+    }
 }
 
 fn memory(alloc: Global, areas: &[Area]) -> Result<Guard, Fail> {

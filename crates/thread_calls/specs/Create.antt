@@ -45,7 +45,7 @@ abbrev pub opening : Kernel → ℕ → ThreadBlock → HartState
 opening k m b = record {
   pc = (spot k m).shell;
   x = slice_set (slice_set (slice_set (slice_set (replicate 32 0)
-    sp ((b.stack + b.size) % 2 ^ 32 / 16 * 16)) gp (spot k m).data_base) a0 b.entry) a1 b.input;
+      sp ((b.stack + b.size) % 2 ^ 32 / 16 * 16)) gp (spot k m).data_base) a0 b.entry) a1 b.input;
 }
 
 abbrev pub spec_of : Kernel → ℕ → ThreadBlock → ThreadSpec

@@ -1,10 +1,15 @@
-use Rattle.std.proofs.Common.{List, All, length, map, ap, subst, sym, ◌∙◌}
+use Rattle.std.proofs.Common.{◌≡◌, ◌+◌, ◌<◌, ◌∷◌, [], ℕ, List, All, length, map, refl, ap, subst, sym, ◌∙◌}
 use Rattle.std.proofs.lemmas.List.{length-map}
+use Rattle.std.proofs.lemmas.List.Elements.{All-nil}
+use Rattle.soft_timers.specs.Timers.{IsRunning}
+use Rattle.soft_timers.specs.declared.due.Armed.{Armed}
+use Rattle.kernel_state.specs.Kernel.{blank_kernel}
+use Rattle.kernel_state.specs.declared.kernel.Kernel.{Kernel}
 use Rattle.module_loader.specs.declared.placement.Placed.{Placed}
 use Rattle.module_manager.specs.Modules.{IsPlaced, loaded}
 use Rattle.module_manager.specs.declared.modules.Module.{Module}
 use Rattle.module_preamble.specs.declared.words.Preamble.{Preamble}
-use Rattle.board_core.specs.Boot.{contents}
+use Rattle.board_core.specs.Boot.{contents, with_spots}
 use Rattle.board_core.specs.Laid.{AreImagesOf}
 use Rattle.board_core.proofs.LoadingSteps.{as_many, rows_placed}
 use Rattle.board_core.proofs.boot.load.Goals as goal
@@ -31,3 +36,15 @@ returns-clause-count c =
     let theirs = subst (λ (ms : List Module). AreImagesOf ms (contents c.args.images.now)) (sym made.rows) made.loaded.images_of in
     ap (λ (ms : List Module). length ms) (c.in_ok-modules.ensures ∙ ap (map loaded) c.deref-3.ensures.value)
     ∙ (length-map rows loaded ∙ (as_many c.args.images.now rows theirs ∙ c.requires.images))
+
+-- no spot of a module arms a timeout
+spots_wheel : (i : ℕ) (ms : List Module) (k : Kernel) → (with_spots i ms k).wheel ≡ k.wheel
+spots_wheel i [] k = refl
+spots_wheel i (m ∷ ms) k = spots_wheel (i + 1) ms _
+
+pub returns-clause-serves : goal.returns-clause-serves
+returns-clause-serves c =
+    let made = c.in_ok-kernel.ensures in
+    let none : IsRunning blank_kernel.wheel = All-nil (λ (e : Armed). 0 < e.expiry) in
+    let wheel = ap (λ (k : Kernel). k.wheel) made.spots ∙ spots_wheel 0 (map loaded c.deref-2.result.now) blank_kernel in
+    record { sound = made.sound; running = subst IsRunning (sym wheel) none }
