@@ -7,7 +7,9 @@
 mod apart;
 mod finish;
 mod give_up;
+mod laws;
 mod live;
 mod session;
 
+pub use laws::a_run_is_read_out_of_its_text;
 pub use live::board_live;
