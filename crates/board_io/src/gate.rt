@@ -7,7 +7,8 @@ use board_values::DevNo;
 
 /// What is asked before each word of a device.
 pub trait Gate {
-    /// Called before device `d` raises its word `k`, counted from 0. It may delay, and answers nothing.
+    /// Called by a thread of device `d` before it raises its word `k`, counted from 0. It may delay, and
+    /// answers nothing.
     fn pause(&self, d: DevNo, k: u32);
 }
 

@@ -1,6 +1,6 @@
 //! How a call ends: by its text, or by the line of a refusal, or with nothing written.
 //!
-//! A write that fails isn't tried again.
+//! After a write that failed nothing is written.
 ghost use Rattle.std.specs.Prelude.{◌≡◌, ◌≤◌, MatchResult};
 ghost use Rattle.board_io.specs.Faults.{Rose};
 ghost use Rattle.board_run.specs.Ending.{Ends, EndsStopped};
