@@ -11,5 +11,5 @@ mod laws;
 mod live;
 mod session;
 
-pub use laws::a_run_is_read_out_of_its_text;
+pub use laws::{a_run_is_read_out_of_its_text, a_run_is_replayed_from_its_log};
 pub use live::board_live;
