@@ -682,11 +682,15 @@ expect 'live: how many were taken' 0 "$(live_report 100 303 '0 a taken 300 last 
 # in so few KiB of addresses the host starts no thread, as no stack has room, or that of one device alone; a device
 # without one is turned by the caller, one word after each turn of the kernel
 lives_in() { (ulimit -s 65536 -v "$1" -t 60 && lives "$2"); }
-expect 'live: no device has a thread' 0 '' from "$boards" lives_in 40000 live.toml
-expect 'live: one device has a thread' 0 '' from "$boards" lives_in 100000 live.toml
-live 'three words' 3 'a|script = [5, 6]' 'b|script = [1]'
-expect 'live: three words without a thread' 0 '' from "$boards" lives_in 40000 live.toml
-expect 'live: words and steps by turns' 0 "$(printf 'S 1\nI 0 00000005\nI 1 00000001\nI 0 00000006\nS 2\n')" cat "$work/log"
+if (ulimit -s 65536) 2>/dev/null; then
+    expect 'live: no device has a thread' 0 '' from "$boards" lives_in 40000 live.toml
+    expect 'live: one device has a thread' 0 '' from "$boards" lives_in 100000 live.toml
+    live 'three words' 3 'a|script = [5, 6]' 'b|script = [1]'
+    expect 'live: three words without a thread' 0 '' from "$boards" lives_in 40000 live.toml
+    expect 'live: words and steps by turns' 0 "$(printf 'S 1\nI 0 00000005\nI 1 00000001\nI 0 00000006\nS 2\n')" cat "$work/log"
+else
+    echo 'skipped: devices without a thread: a stack of 64 MiB is above the limit'
+fi
 
 # it reads and refuses as a replay does, but for the log
 expect 'live: no such board' 2 '' "$txboard" run "$work/none.toml"
