@@ -1,7 +1,7 @@
 //! A booted board of one module and two devices, and an inbox with the passes of two devices.
 //!
-//! No event is made here. A machine has so many parts that each way on which one is let go is long to
-//! prove; so it is booted last, from a board that is only lent.
+//! No event is made here. A machine has many parts, so each way on which one is let go is long to prove;
+//! it is booted last, from a board that is only lent.
 ghost use Rattle.std.specs.Prelude.{◌≡◌, [], length, IfOk, IfSome};
 ghost use Rattle.board_file.specs.Board.{script_words};
 ghost use Rattle.board_file.specs.Rules.{IsBoard};
