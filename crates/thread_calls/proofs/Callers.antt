@@ -1,5 +1,5 @@
 -- A change of the kernel keeps the registers of the caller.
-use Rattle.std.proofs.Common.{◌≡◌, ◌≢◌, ℕ, ◌<◌, ◌≤◌, ◌==◌, ◌||◌, Bool, true, false, not, List, length, Option, None, Some, refl, sym, ap, ◌∙◌, subst, ⊎_elim}
+use Rattle.std.proofs.Common.{◌≡◌, ◌≢◌, ℕ, ◌<◌, ◌≤◌, ◌==◌, ◌||◌, Bool, true, false, not, nat_le, List, [], length, Option, None, Some, refl, sym, ap, ◌∙◌, subst, ⊎_elim}
 use Rattle.std.specs.List.{slice_index_or}
 use Rattle.std.proofs.lemmas.Bool.{and_parts, cases_eq, cases_lt, cond_both, eqb-true, false≢true, not-false}
 use Rattle.std.proofs.lemmas.List.{get_or-set_same, get_or-set_other, set_past}
@@ -11,7 +11,12 @@ use Rattle.object_grants.specs.Slot.{is_in, is_kind, is_own_empty, is_empty_for,
 use Rattle.object_grants.specs.Table.{names, named as names_slot, slot}
 use Rattle.object_grants.specs.declared.slot.SlotState.TheVariants.{Empty, Live}
 use Rattle.region_guard.specs.Memory.{Memory}
+use Rattle.tx_types.specs.Code.{wait_aborted}
+use Rattle.tx_types.specs.declared.waits.End.TheVariants.{Aborted}
 use Rattle.kernel_state.specs.Change.{Change, quiet}
+use Rattle.kernel_state.specs.Readying.{made_ready}
+use Rattle.kernel_state.specs.Registers.{with_a0}
+use Rattle.kernel_state.specs.Waiting.{left_wait, suspended_at_last, wait_ended}
 use Rattle.kernel_state.specs.Kernel.{thread, with_thread, module_of, placed}
 use Rattle.kernel_state.specs.Row.{KeepsCaller}
 use Rattle.kernel_state.specs.Outcome.{refused}
@@ -99,3 +104,14 @@ unfolding created
 created_memory k g by o name b =
     let now = placed k o name (spec_of k by b) in
     cond_both (b.auto == 1) (started now g o) (quiet now g) (λ (c : Change). c.memory ≡ g) (λ starts. refl) (λ rests. refl)
+
+-- a thread whose wait is ended isn't the caller
+pub aborted_kept : (k : Kernel) (g : Memory) (by t c : ℕ) → refused (not (is_waiting (thread k t).state)) c ≡ None
+    → KeepsCaller k by (wait_ended k g t Aborted []).kernel
+aborted_kept k g by t c free caller =
+    let waits : is_waiting (thread k t).state ≡ true = not-false (is_waiting (thread k t).state) (passed (not (is_waiting (thread k t).state)) c free) in
+    let other : by ≢ t = λ same. false≢true (sym (ap (λ n. nat_le 4 n) caller.state) ∙ subst (λ n. is_waiting (thread k n).state ≡ true) (sym same) waits) in
+    let answered = with_a0 (left_wait k t Aborted) t wait_aborted in
+    let left : (thread answered by).hart ≡ (thread k by).hart = other_kept k by t _ other in
+    cond_both (thread answered t).held (suspended_at_last answered t) (made_ready answered t) (λ (j : Kernel). (thread j by).hart ≡ (thread k by).hart)
+    (λ held. other_kept answered by t _ other ∙ left) (λ free. other_kept answered by t _ other ∙ left)

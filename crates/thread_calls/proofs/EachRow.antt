@@ -3,7 +3,7 @@
 use Rattle.std.proofs.Common.{◌≡◌, ℕ, ◌==◌, false, refl, not, nat_le, nat_lt, List, [], ◌∷◌, Some, position, All, lit<}
 use Rattle.std.proofs.lemmas.Bool.{cond_both}
 use Rattle.std.proofs.lemmas.List.Elements.{All-cons, All-nil}
-use Rattle.tx_types.specs.Code.{success, ptr_error, option_error, no_instance, no_memory, thread_error, priority_error, delete_error, resume_error, suspend_error, thresh_error, suspend_lifted, not_done}
+use Rattle.tx_types.specs.Code.{success, ptr_error, option_error, no_instance, no_memory, thread_error, priority_error, delete_error, resume_error, suspend_error, thresh_error, suspend_lifted, wait_abort_error, not_done}
 use Rattle.tx_types.specs.Kind.{kind_of}
 use Rattle.tx_types.specs.declared.kind.Kind.{Kind}
 use Rattle.tx_types.specs.declared.kind.Kind.TheVariants.{Thread}
@@ -21,17 +21,19 @@ use Rattle.kernel_state.specs.Range.{allowed, range}
 use Rattle.kernel_state.specs.Registers.{arg}
 use Rattle.kernel_state.specs.Row.{Row, IsRow, IsNoRefusal, AnsweredIsKept, ChangedIsKept, DoneIsKept, WrittenIsKept, UnlessIsKept, FoundIsKept, GivenIsKept, EitherIsKept}
 use Rattle.kernel_state.specs.Tests.{named, reserved, owner_refusal, caller_refusal}
-use Rattle.kernel_state.specs.Thread.{is_over, is_state}
+use Rattle.kernel_state.specs.Thread.{is_over, is_state, is_waiting}
 use Rattle.kernel_state.specs.ThreadChanges.{started, suspended, with_held, ended, reset}
-use Rattle.kernel_state.specs.declared.answer.Answer.TheVariants.{Code, Value, Ended}
+use Rattle.kernel_state.specs.declared.answer.Answer.TheVariants.{Code, Value, Ended, Waits}
+use Rattle.tx_types.specs.declared.waits.End.TheVariants.{Aborted}
+use Rattle.kernel_state.specs.Waiting.{wait_begun, wait_ended}
 use Rattle.kernel_state.specs.WaitLaws.{EndChangesOne, EndKeepsMemory}
 use Rattle.thread_calls.specs.Create.{block_at, block_refusal, created}
 use Rattle.thread_calls.specs.Numbers.{with_user_threshold, with_user_priority, with_slice, thread_info}
 use Rattle.thread_calls.specs.ObjectRows.{allocation, granting, object_allocate_row, object_deallocate_row, object_pointer_get_row}
-use Rattle.thread_calls.specs.Rows.{EachRowIsOne, row, row_to, rows}
-use Rattle.thread_calls.specs.ThreadRows.{end_answer, creation, resumption, starting, threshold_change, priority_change, slice_change, thread_create_row, thread_delete_row, thread_terminate_row, thread_suspend_row, thread_resume_row, thread_relinquish_row, thread_identify_row, thread_info_get_row, thread_preemption_change_row, thread_priority_change_row, thread_time_slice_change_row, thread_reset_row, thread_complete_row}
-use Rattle.thread_calls.proofs.Callers.{hart_kept, started_kept, suspended_kept, ended_kept, reset_kept, created_kept, created_memory}
-use Rattle.thread_calls.proofs.Slots.{slots_stay, suspended_slots, ended_slots, created_slots, removed_slots}
+use Rattle.thread_calls.specs.Rows.{EachRowIsOne, EachWaitingRowIsOne, row, row_to, rows, waiting_rows}
+use Rattle.thread_calls.specs.ThreadRows.{end_answer, sleep_of, thread_sleep_row, thread_wait_abort_row, creation, resumption, starting, threshold_change, priority_change, slice_change, thread_create_row, thread_delete_row, thread_terminate_row, thread_suspend_row, thread_resume_row, thread_relinquish_row, thread_identify_row, thread_info_get_row, thread_preemption_change_row, thread_priority_change_row, thread_time_slice_change_row, thread_reset_row, thread_complete_row}
+use Rattle.thread_calls.proofs.Callers.{hart_kept, started_kept, suspended_kept, ended_kept, reset_kept, created_kept, created_memory, aborted_kept}
+use Rattle.thread_calls.proofs.Slots.{slots_stay, suspended_slots, ended_slots, created_slots, removed_slots, aborted_slots}
 
 -- the laws of the layer below
 pub record Parts : Type 0 where
@@ -59,6 +61,9 @@ value_is_no_refusal v c same no_success not_lifted = cc
 
 ended_is_no_refusal : IsNoRefusal Ended
 ended_is_no_refusal c same no_success not_lifted = cc
+
+waits_is_no_refusal : IsNoRefusal Waits
+waits_is_no_refusal c same no_success not_lifted = cc
 
 -- who ends itself gets no answer, and another thread's end is a success
 end_is_no_refusal : (by t : ℕ) → IsNoRefusal (end_answer by t)
@@ -201,6 +206,20 @@ module _ (parts : Parts) where
   thread_complete_is_row k g by a = parts.changed [] k g by (ended k g by Completed) Ended ended_is_no_refusal (parts.end_memory k g by Completed) (λ calls. ended_kept parts.end_one k g by by Completed)
       (ended_slots k g by by Completed)
 
+  thread_sleep_is_row : IsRow (row 0x15 thread_sleep_row)
+  unfolding thread_sleep_row
+  thread_sleep_is_row k g by a =
+      parts.either [] k g by (arg a 0 == 0) _ _
+      (parts.done [] k g by (quiet k g) refl (λ calls. refl) (slots_stay k _ by refl))
+      (parts.changed [] k g by (quiet (wait_begun k by (sleep_of k by) (arg a 0)) g) Waits waits_is_no_refusal refl (λ calls. hart_kept k by by _ refl) (slots_stay k _ by refl))
+
+  thread_wait_abort_is_row : IsRow (row 0x1C thread_wait_abort_row)
+  unfolding thread_wait_abort_row
+  thread_wait_abort_is_row k g by a =
+      parts.found [] k g by thread_error (named k by (arg a 0) Thread) _ (λ t at.
+      parts.unless [] k g by (refused (not (is_waiting (thread k t).state)) wait_abort_error) _ (λ waits.
+      parts.done [] k g by (wait_ended k g t Aborted []) refl (aborted_kept k g by t wait_abort_error waits) (aborted_slots k g by t)))
+
 -- what holds of each element, one after another
 abbrev EachOf : (Row → Type 0) → List Row → Type 0
 EachOf P [] = Unit {0}
@@ -261,3 +280,6 @@ each_row_is_one parts =
         ),
       ),
     )
+
+pub each_waiting_row_is_one : Parts → EachWaitingRowIsOne
+each_waiting_row_is_one parts = all_of IsRow waiting_rows (thread_sleep_is_row parts, (thread_wait_abort_is_row parts, tt))

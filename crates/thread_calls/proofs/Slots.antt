@@ -6,7 +6,7 @@ use Rattle.tx_types.specs.declared.kind.Kind.{Kind}
 use Rattle.tx_types.specs.declared.kind.Kind.TheVariants.{Thread}
 use Rattle.tx_types.specs.declared.state.State.{State}
 use Rattle.tx_types.specs.declared.state.State.TheVariants.{Ready}
-use Rattle.tx_types.specs.declared.waits.End.TheVariants.{Gone}
+use Rattle.tx_types.specs.declared.waits.End.TheVariants.{Aborted, Gone}
 use Rattle.object_grants.specs.Laws.{MakeLive, MakeEmpty}
 use Rattle.object_grants.specs.Slot.{is_empty_for, is_granted, is_in, is_kind, is_live_for, is_own_empty, owns, slot_state_number}
 use Rattle.object_grants.specs.Table.{after_make_live, named as names_slot, named_slot, names, slot}
@@ -64,6 +64,11 @@ ended_slots k g by t state =
     (cond_both (is_waiting (thread k t).state) (wait_ended k g t Gone []) (quiet k g) (λ (c : Change). (over_by c.kernel t state).objects ≡ k.objects)
     (λ _. cond_both (is_over (thread k t).state) _ _ (λ (j : Kernel). j.objects ≡ k.objects) (λ _. refl) (λ _. refl))
     (λ _. cond_both (is_over (thread k t).state) k _ (λ (j : Kernel). j.objects ≡ k.objects) (λ _. refl) (λ _. refl)))
+
+pub aborted_slots : (k : Kernel) (g : Memory) (by t : ℕ) → KeepsSlots k by (wait_ended k g t Aborted []).kernel
+aborted_slots k g by t =
+    let c = wait_ended k g t Aborted [] in
+    slots_stay k c.kernel by (cond_both _ _ _ (λ (j : Kernel). j.objects ≡ k.objects) (λ _. refl) (λ _. refl))
 
 -- a thread's object is made in a reserved slot, and removed
 created_objects : (k : Kernel) (g : Memory) (by o : ℕ) (name : List ℕ) (b : ThreadBlock)

@@ -7,7 +7,7 @@ use Rattle.kernel_state.specs.Registers.{arg}
 use Rattle.kernel_state.specs.Row.{Row, IsRow}
 use Rattle.kernel_state.specs.declared.kernel.Kernel.{Kernel}
 use Rattle.thread_calls.specs.ObjectRows.{object_allocate_row, object_deallocate_row, object_pointer_get_row}
-use Rattle.thread_calls.specs.ThreadRows.{thread_create_row, thread_delete_row, thread_terminate_row, thread_suspend_row, thread_resume_row, thread_relinquish_row, thread_identify_row, thread_info_get_row, thread_preemption_change_row, thread_priority_change_row, thread_time_slice_change_row, thread_reset_row, thread_complete_row}
+use Rattle.thread_calls.specs.ThreadRows.{thread_create_row, thread_delete_row, thread_terminate_row, thread_suspend_row, thread_resume_row, thread_relinquish_row, thread_identify_row, thread_info_get_row, thread_preemption_change_row, thread_priority_change_row, thread_time_slice_change_row, thread_reset_row, thread_complete_row, thread_sleep_row, thread_wait_abort_row}
 
 -- a row that writes nothing, and one that writes n bytes where an argument points
 abbrev pub row : ℕ → (Kernel → Memory → ℕ → List ℕ → Outcome) → Row
@@ -38,3 +38,10 @@ rows =
 
 abbrev pub EachRowIsOne : Type 0
 EachRowIsOne = All IsRow rows
+
+-- the rows by which a thread sleeps and the wait of another one ends; a board doesn't have them yet
+abbrev pub waiting_rows : List Row
+waiting_rows = row 0x15 thread_sleep_row ∷ row 0x1C thread_wait_abort_row ∷ []
+
+abbrev pub EachWaitingRowIsOne : Type 0
+EachWaitingRowIsOne = All IsRow waiting_rows

@@ -1,6 +1,6 @@
 -- The thread services, a row each: the refusals from left to right, then the change (ThreadX User Guide, "Thread Services").
-use Rattle.std.specs.Prelude.{ℕ, ◌==◌, false, not, nat_le, nat_lt, List, if◌then◌else◌}
-use Rattle.tx_types.specs.Code.{success, thread_error, priority_error, delete_error, resume_error, suspend_error, thresh_error, suspend_lifted, not_done}
+use Rattle.std.specs.Prelude.{ℕ, ◌==◌, false, not, nat_le, nat_lt, List, [], if◌then◌else◌}
+use Rattle.tx_types.specs.Code.{success, thread_error, priority_error, delete_error, resume_error, suspend_error, thresh_error, suspend_lifted, wait_abort_error, not_done}
 use Rattle.tx_types.specs.declared.kind.Kind.TheVariants.{Thread}
 use Rattle.tx_types.specs.declared.state.State.TheVariants.{Completed, Terminated, Suspended}
 use Rattle.call_arguments.specs.Names.{name_at}
@@ -9,14 +9,19 @@ use Rattle.object_grants.specs.Table.{ref_of}
 use Rattle.ready_maps.specs.Moves.{yielded}
 use Rattle.region_guard.specs.Memory.{Memory}
 use Rattle.region_guard.specs.declared.region.Access.TheVariants.{Load, Store}
-use Rattle.kernel_state.specs.Kernel.{thread, module_of, removed_thread}
+use Rattle.suspend_lists.specs.declared.wait.Asks.TheVariants.{Sleep}
+use Rattle.suspend_lists.specs.declared.wait.On.TheVariants.{Sleep as Nowhere}
+use Rattle.suspend_lists.specs.declared.wait.Wait.{Wait}
+use Rattle.tx_types.specs.declared.waits.End.TheVariants.{Aborted}
+use Rattle.kernel_state.specs.Kernel.{thread, module_of, removed_thread, effective_priority}
 use Rattle.kernel_state.specs.Change.{quiet}
 use Rattle.kernel_state.specs.Outcome.{Outcome, answering, answered, done, unless, found, given, refused}
 use Rattle.kernel_state.specs.Registers.{arg}
 use Rattle.kernel_state.specs.Tests.{named, reserved, owner_refusal, caller_refusal}
-use Rattle.kernel_state.specs.Thread.{is_over, is_state}
+use Rattle.kernel_state.specs.Thread.{is_over, is_state, is_waiting}
 use Rattle.kernel_state.specs.ThreadChanges.{started, suspended, with_held, ended, reset}
-use Rattle.kernel_state.specs.declared.answer.Answer.TheVariants.{Value, Ended}
+use Rattle.kernel_state.specs.Waiting.{wait_begun, wait_ended}
+use Rattle.kernel_state.specs.declared.answer.Answer.TheVariants.{Value, Ended, Waits}
 use Rattle.kernel_state.specs.declared.answer.Answer.{Answer}
 use Rattle.kernel_state.specs.declared.answer.Answer.TheVariants.{Code}
 use Rattle.kernel_state.specs.declared.kernel.Kernel.{Kernel}
@@ -112,3 +117,23 @@ thread_reset_row k g by a =
 
 unfoldable pub thread_complete_row : Kernel → Memory → ℕ → List ℕ → Outcome
 thread_complete_row k g by a = answering (ended k g by Completed) Ended
+
+-- the sleep of a caller: as its time is up, it answers SUCCESS
+abbrev pub sleep_of : Kernel → ℕ → Wait
+sleep_of k by = record {
+  on = Nowhere;
+  asks = Sleep;
+  code = success;
+  asked = effective_priority k by;
+}
+
+unfoldable pub thread_sleep_row : Kernel → Memory → ℕ → List ℕ → Outcome
+thread_sleep_row k g by a =
+    if arg a 0 == 0 then done (quiet k g)
+    else answering (quiet (wait_begun k by (sleep_of k by) (arg a 0)) g) Waits
+
+unfoldable pub thread_wait_abort_row : Kernel → Memory → ℕ → List ℕ → Outcome
+thread_wait_abort_row k g by a =
+    found k g thread_error (named k by (arg a 0) Thread) (λ t.
+    unless k g (refused (not (is_waiting (thread k t).state)) wait_abort_error)
+    (done (wait_ended k g t Aborted [])))

@@ -2,7 +2,7 @@
 //!
 //! Their bodies do nothing; a function calls one where its proof needs the law.
 ghost use Rattle.thread_calls.specs.Laws.{ThresholdKeepsSound, PriorityKeepsSound, SliceKeepsSound, YieldKeepsSound, AllocateKeepsSound, DeallocateKeepsSound, GrantKeepsSound};
-ghost use Rattle.thread_calls.specs.Rows.{EachRowIsOne};
+ghost use Rattle.thread_calls.specs.Rows.{EachRowIsOne, EachWaitingRowIsOne};
 
 use kernel_state::laws::{
     a_kernel_stays_sound, a_move_leaves_others_alone, a_row_is_made_of_parts,
@@ -35,6 +35,14 @@ pub fn a_change_of_slots_keeps_sound()
 /// change, leaves its caller's registers, and changes slots by one call of their table at most.
 pub fn each_row_is_one()
     ensures { EachRowIsOne }
+{
+    a_row_is_made_of_parts();
+    an_end_changes_its_thread_alone();
+}
+
+/// The same of the services by which a thread sleeps and the wait of another one ends.
+pub fn each_waiting_row_is_one()
+    ensures { EachWaitingRowIsOne }
 {
     a_row_is_made_of_parts();
     an_end_changes_its_thread_alone();

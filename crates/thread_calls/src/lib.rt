@@ -11,6 +11,7 @@ mod objects;
 mod resuming;
 mod serving;
 mod threads;
+mod waits;
 
 pub use create::thread_create;
 pub use numbers::{
@@ -23,3 +24,4 @@ pub use threads::{
     thread_complete, thread_delete, thread_identify, thread_relinquish, thread_reset,
     thread_resume, thread_suspend, thread_terminate,
 };
+pub use waits::{thread_sleep, thread_wait_abort};
