@@ -6,7 +6,10 @@ use Rattle.kernel_state.specs.Kernel.{thread}
 use Rattle.kernel_state.specs.Outcome.{answered}
 use Rattle.kernel_state.specs.Range.{WritesAlone}
 use Rattle.kernel_state.specs.Registers.{number_asked, with_a0}
+use Rattle.kernel_state.specs.Room.{RaisesCounts}
 use Rattle.kernel_state.specs.Row.{KeepsSlots, Row}
+use Rattle.kernel_state.specs.Sound.{IsSound as IsSoundKernel}
+use Rattle.kernel_state.specs.WaitCalls.{CallsWaits}
 use Rattle.kernel_state.specs.declared.answer.Answer.TheVariants.{Code}
 use Rattle.kernel_state.specs.declared.kernel.Kernel.{Kernel}
 use Rattle.call_dispatch.specs.Ecall.{dispatched}
@@ -45,3 +48,14 @@ NoRowChangesA0Alone =
 abbrev pub CallChangesSlotsOnce : Type 0
 CallChangesSlotsOnce =
     (k : Kernel) (g : Memory) (t : ℕ) → KeepsSlots k t (dispatched k g t).change.kernel
+
+-- a call begins one wait at most and arms one timeout at most, and no tick comes with it
+abbrev pub CallRaisesCountsByOne : Type 0
+CallRaisesCountsByOne =
+    (k : Kernel) (g : Memory) (t : ℕ) → RaisesCounts 1 k (dispatched k g t).change.kernel
+
+-- waits change by calls of their table alone, whatever is asked for
+abbrev pub CallCallsWaits : Type 0
+CallCallsWaits =
+    (k : Kernel) (g : Memory) (t : ℕ) → IsSoundKernel k → k.ready.run ≡ Some t
+    → CallsWaits k (dispatched k g t).change

@@ -19,5 +19,6 @@ pub mod Thread
 pub mod ThreadChanges
 pub mod ThreadLaws
 pub mod Ticks
+pub mod WaitCalls
 pub mod WaitLaws
 pub mod Waiting

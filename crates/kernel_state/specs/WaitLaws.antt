@@ -1,7 +1,8 @@
 -- The beginning and the end of a wait, and a tick, keep a kernel sound; by how much they raise its
 -- counts; and what the end of a thread leaves alone.
-use Rattle.std.specs.Prelude.{◌≡◌, ◌≢◌, ℕ, ◌^◌, ◌<◌, true, List, IsSome}
+use Rattle.std.specs.Prelude.{◌≡◌, ◌≢◌, ◌⊎◌, ℕ, ◌^◌, ◌<◌, true, List, IsSome}
 use Rattle.tx_types.specs.declared.state.State.{State}
+use Rattle.tx_types.specs.declared.state.State.TheVariants.{Completed, Terminated}
 use Rattle.tx_types.specs.declared.waits.End.{End}
 use Rattle.tx_types.specs.declared.waits.End.TheVariants.{Gone}
 use Rattle.ready_maps.specs.Sched.{is_ready}
@@ -12,10 +13,11 @@ use Rattle.soft_timers.specs.Timers.{TimerTable}
 use Rattle.kernel_state.specs.Kernel.{is_thread}
 use Rattle.kernel_state.specs.Room.{HasRoom, RaisesCounts}
 use Rattle.kernel_state.specs.Serves.{Serves}
-use Rattle.kernel_state.specs.Sound.{IsSoundBut, IsWait}
+use Rattle.kernel_state.specs.Sound.{IsSound, IsSoundBut, IsWait}
 use Rattle.kernel_state.specs.ThreadChanges.{ended, over_by}
 use Rattle.kernel_state.specs.ThreadLaws.{Leaves}
 use Rattle.kernel_state.specs.Ticks.{advanced}
+use Rattle.kernel_state.specs.WaitCalls.{CallsWaits}
 use Rattle.kernel_state.specs.Waiting.{wait_begun, wait_ended}
 use Rattle.kernel_state.specs.declared.kernel.Kernel.{Kernel}
 
@@ -64,3 +66,17 @@ abbrev pub EndChangesOne : Type 0
 EndChangesOne =
     (k : Kernel) (g : Memory) (t : ℕ) (state : State) → let now = (ended k g t state).kernel in
     now ≡ with_waits (over_by k t state) now.waits now.wheel
+
+-- the end of a wait and of a thread, and a tick, change the waits by calls of their table alone
+abbrev pub WaitEndCallsWaits : Type 0
+WaitEndCallsWaits =
+    (k : Kernel) (g : Memory) (t : ℕ) (e : End) (value : List ℕ) → IsSound k → IsSome (wait_of k.waits t) → e ≢ Gone
+    → CallsWaits k (wait_ended k g t e value)
+
+abbrev pub EndCallsWaits : Type 0
+EndCallsWaits =
+    (k : Kernel) (g : Memory) (t : ℕ) (state : State) → IsSound k → is_thread k t ≡ true
+    → (state ≡ Completed) ⊎ (state ≡ Terminated) → CallsWaits k (ended k g t state)
+
+abbrev pub TickCallsWaits : Type 0
+TickCallsWaits = (k : Kernel) (g : Memory) → Serves k g → HasRoom k → CallsWaits k (advanced k g)

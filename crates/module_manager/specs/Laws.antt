@@ -1,5 +1,5 @@
 -- A halt ends its module and nothing of another's; a start writes its module's data alone.
-use Rattle.std.specs.Prelude.{◌≡◌, ◌≢◌, ℕ, ◌<◌, true, false, List, None}
+use Rattle.std.specs.Prelude.{◌≡◌, ◌≢◌, ℕ, ◌<◌, true, false, List, [], None}
 use Rattle.tx_types.specs.Limits.{slot_limit, module_limit}
 use Rattle.flat_ram.specs.Laws.{IsOutside}
 use Rattle.object_grants.specs.Slot.{owns, is_granted, without_grant}
@@ -8,9 +8,11 @@ use Rattle.module_loader.specs.Want.{want_of}
 use Rattle.region_guard.specs.Memory.{Memory, IsSound as IsSoundMemory, may, byte}
 use Rattle.region_guard.specs.declared.region.Access.TheVariants.{Store}
 use Rattle.kernel_state.specs.Kernel.{thread, is_thread, module_of, spot}
+use Rattle.kernel_state.specs.Room.{RaisesCounts}
 use Rattle.kernel_state.specs.Serves.{Serves}
 use Rattle.kernel_state.specs.Sound.{IsSound}
 use Rattle.kernel_state.specs.Thread.{is_over}
+use Rattle.kernel_state.specs.WaitCalls.{CallsWaits}
 use Rattle.kernel_state.specs.declared.kernel.Kernel.{Kernel}
 use Rattle.module_manager.specs.Halt.{halted}
 use Rattle.module_manager.specs.Modules.{module_at}
@@ -74,3 +76,16 @@ StartWritesItsData =
     → may g m Store (module_at rows m).placed.data_base (want_of (module_at rows m).preamble).data_bytes ≡ true
     → IsOutside (module_at rows m).placed.data_base (want_of (module_at rows m).preamble).data_bytes x
     → byte (start_row rows k g m).change.memory x ≡ byte g x
+
+-- a halt begins no wait and arms nothing, and ends waits by calls of their table alone
+abbrev pub HaltRaisesNone : Type 0
+HaltRaisesNone = (k : Kernel) (g : Memory) (m : ℕ) → RaisesCounts 0 k (halted k g m).kernel
+
+abbrev pub HaltCallsWaits : Type 0
+HaltCallsWaits = (k : Kernel) (g : Memory) (m : ℕ) → IsSound k → CallsWaits k (halted k g m)
+
+-- a start begins and ends no wait, and arms and disarms nothing
+abbrev pub StartKeepsWaits : Type 0
+StartKeepsWaits =
+    (rows : List Module) (k : Kernel) (g : Memory) (m : ℕ) → let c = (start_row rows k g m).change in
+    (c.kernel.waits ≡ k.waits) × (c.kernel.wheel ≡ k.wheel) × (c.ends ≡ [])
