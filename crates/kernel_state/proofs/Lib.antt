@@ -9,4 +9,5 @@ pub mod Sound
 pub mod States
 pub mod ThreadChanges
 pub mod TickChanges
+pub mod WaitCalls
 pub mod WaitChanges

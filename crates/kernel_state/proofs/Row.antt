@@ -1,5 +1,5 @@
 -- The parts of a row: each keeps that a row writes in its ranges alone, that a refusal comes with no change, that the caller
--- has its registers afterwards, and that slots change by one call of their table at most.
+-- has its registers afterwards, and what it keeps of the tables.
 use Rattle.std.proofs.Common.{◌≡◌, ℕ, ◌+◌, ◌*◌, ◌<◌, ◌≤◌, true, List, [], ◌∷◌, length, Option, None, Some, Ok, Err, refl, sym, ap, ◌∙◌, subst, ⊎_elim, inl, inr, arith}
 use Rattle.std.proofs.lemmas.Bool.{cond-true, cond_both, eqb-true}
 use Rattle.std.proofs.lemmas.List.Elements.{All-head}
@@ -12,15 +12,19 @@ use Rattle.flat_ram.specs.Laws.{IsOutside, LengthStays}
 use Rattle.region_guard.specs.Laws.{BytesOutsideStay, UsedIsInRam}
 use Rattle.region_guard.specs.Memory.{Memory, IsSound as IsSoundMemory, byte, may, ram_base}
 use Rattle.region_guard.specs.declared.region.Access.TheVariants.{Store}
+use Rattle.soft_timers.specs.Timers.{TimerTable}
+use Rattle.suspend_lists.specs.Waits.{WaitTable}
+use Rattle.kernel_state.specs.Change.{quiet}
 use Rattle.kernel_state.specs.Kernel.{thread}
 use Rattle.kernel_state.specs.Laws.{RunningIsReady, ReadyIsThread}
 use Rattle.kernel_state.specs.Outcome.{answered}
 use Rattle.kernel_state.specs.Range.{Range, WritesAlone, allowed, range}
-use Rattle.kernel_state.specs.Row.{IsKept, KeepsSlots, IsNoRefusal, RunningCalls, AnsweredIsKept, ChangedIsKept, DoneIsKept, WrittenIsKept, UnlessIsKept, FoundIsKept, GivenIsKept, EitherIsKept}
+use Rattle.kernel_state.specs.Row.{IsKept, KeepsTables, IsNoRefusal, RunningCalls, LeftKeepsTables, AnsweredIsKept, ChangedIsKept, DoneIsKept, WrittenIsKept, UnlessIsKept, FoundIsKept, GivenIsKept, EitherIsKept}
 use Rattle.kernel_state.specs.Sound.{IsThread}
 use Rattle.kernel_state.specs.declared.answer.Answer.TheVariants.{Code}
 use Rattle.kernel_state.specs.declared.kernel.Kernel.{Kernel}
 use Rattle.kernel_state.proofs.Sound.{thread_of}
+use Rattle.kernel_state.proofs.WaitCalls.{left_calls_waits}
 
 pub running_calls : RunningIsReady → ReadyIsThread → RunningCalls
 running_calls is_ready_then is_thread_then k by sound runs =
@@ -35,27 +39,40 @@ success_is_no_refusal c same no_success not_lifted = no_success (let is_success 
 none_written : (r : List Range) (g : Memory) → WritesAlone r g g
 none_written r g = record { regions = refl; size = refl; bytes = λ x outside. refl }
 
-slots_stay : (k : Kernel) (by : ℕ) → KeepsSlots k by k
-slots_stay k by = record { call = None; slots = refl; may = tt }
+-- a change that leaves waits and timeouts
+pub left_keeps_tables : LeftKeepsTables
+left_keeps_tables k by c left slots =
+    let begun = ap (λ (w : WaitTable). w.totals.begun) left.waits in
+    let armings = ap (λ (h : TimerTable). h.armings) left.wheel in
+    let ticks = ap (λ (h : TimerTable). h.ticks) left.wheel in
+    record {
+      slots = slots;
+      waits = λ sound caller. left_calls_waits k c left;
+      counts = record { begun = omega (arith, begun); armings = omega (arith, armings); ticks = omega (arith, ticks) };
+    }
+
+tables_stay : (k : Kernel) (g : Memory) (by : ℕ) → KeepsTables k by (quiet k g)
+tables_stay k g by =
+    left_keeps_tables k by (quiet k g) (record { waits = refl; wheel = refl; ends = refl }) (record { call = None; slots = refl; may = tt })
 
 pub answered_is_kept : AnsweredIsKept
 answered_is_kept r k g by c = record {
   alone = λ sound. none_written r g;
   refusal = λ other same no_success not_lifted. let is_other : c ≡ other = cc in ap (answered k g) is_other;
   caller = λ calls. refl;
-  slots = slots_stay k by;
+  tables = tables_stay k g by;
 }
 
 pub changed_is_kept : ChangedIsKept
-changed_is_kept r k g by now answer no_refusal same keeps slots = record {
+changed_is_kept r k g by now answer no_refusal same keeps tables = record {
   alone = λ sound. subst (WritesAlone r g) (sym same) (none_written r g);
   refusal = λ c is_c no_success not_lifted. absurd (no_refusal c is_c no_success not_lifted);
   caller = keeps;
-  slots = slots;
+  tables = tables;
 }
 
 pub done_is_kept : DoneIsKept
-done_is_kept r k g by now same keeps slots = changed_is_kept r k g by now (Code success) success_is_no_refusal same keeps slots
+done_is_kept r k g by now same keeps tables = changed_is_kept r k g by now (Code success) success_is_no_refusal same keeps tables
 
 -- words that are written change no byte outside of them
 record IsWrittenAt (x n : ℕ) (g now : Memory) : Type 0 where
@@ -98,11 +115,11 @@ allowed_is_written_alone length_stays outside_stays in_ram g m x ws sound some f
     })
 
 pub written_is_kept : LengthStays → BytesOutsideStay → UsedIsInRam → WrittenIsKept
-written_is_kept length_stays outside_stays in_ram k g by now m x ws some free keeps slots = record {
+written_is_kept length_stays outside_stays in_ram k g by now m x ws some free keeps tables = record {
   alone = λ sound. allowed_is_written_alone length_stays outside_stays in_ram g m x ws sound some free;
   refusal = λ c same no_success not_lifted. absurd (success_is_no_refusal c same no_success not_lifted);
   caller = keeps;
-  slots = slots;
+  tables = tables;
 }
 
 pub unless_is_kept : UnlessIsKept

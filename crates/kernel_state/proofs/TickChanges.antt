@@ -55,7 +55,7 @@ pub armed_below : (k : Kernel) (id : ℕ) → IsSound k → IsSome (armed k.whee
 armed_below k id sound some past =
     false≢true (subst IsSome (none_past k.waits id (omega (arith, sound.formed.waits.threads, ltb-false id 256 past))) (armed_waits k id sound some))
 
-not_gone : TimedOut ≢ Gone
+pub not_gone : TimedOut ≢ Gone
 not_gone same = cc
 
 -- an entry at its turn: none, or the end of a wait
@@ -147,7 +147,7 @@ slice_treated_sound lower (Some t) k sound =
     (λ _. sound)
 
 -- it leaves waits and timeouts
-slice_treated_part : {X : Type 0} (part : Kernel → X) → ((k : Kernel) (now : Kernel) → now.waits ≡ k.waits → now.wheel ≡ k.wheel → part now ≡ part k) → (ran : Option ℕ) (k : Kernel) → part (slice_treated ran k) ≡ part k
+pub slice_treated_part : {X : Type 0} (part : Kernel → X) → ((k : Kernel) (now : Kernel) → now.waits ≡ k.waits → now.wheel ≡ k.wheel → part now ≡ part k) → (ran : Option ℕ) (k : Kernel) → part (slice_treated ran k) ≡ part k
 slice_treated_part part stays None k = refl
 slice_treated_part part stays (Some t) k =
     cond_both (runs k t && has_slice (thread k t)) (slice_used k t) k (λ j. part j ≡ part k)

@@ -12,7 +12,10 @@ use Rattle.kernel_state.specs.Change.{Change, quiet}
 use Rattle.kernel_state.specs.Kernel.{thread, is_thread, module_of}
 use Rattle.kernel_state.specs.Outcome.{Outcome, answered, answering, done, found, given, unless}
 use Rattle.kernel_state.specs.Range.{Range, WritesAlone, allowed, range}
+use Rattle.kernel_state.specs.Registers.{arg}
+use Rattle.kernel_state.specs.Room.{RaisesCounts}
 use Rattle.kernel_state.specs.Sound.{IsSound}
+use Rattle.kernel_state.specs.WaitCalls.{CallsWaits, LeavesWaits}
 use Rattle.kernel_state.specs.declared.answer.Answer.{Answer}
 use Rattle.kernel_state.specs.declared.answer.Answer.TheVariants.{Code}
 use Rattle.kernel_state.specs.declared.kernel.Kernel.{Kernel}
@@ -22,6 +25,13 @@ pub record Row : Type 0 where
   pub number : ℕ
   pub does : Kernel → Memory → ℕ → List ℕ → Outcome
   pub writes : Kernel → ℕ → List ℕ → List Range
+
+-- a row that writes nothing, and one that writes n bytes where an argument points
+abbrev pub row : ℕ → (Kernel → Memory → ℕ → List ℕ → Outcome) → Row
+row n does = record { number = n; does = does; writes = λ k by a. [] }
+
+abbrev pub row_to : ℕ → ℕ → ℕ → (Kernel → Memory → ℕ → List ℕ → Outcome) → Row
+row_to i size n does = record { number = n; does = does; writes = λ k by a. range (arg a i) size ∷ [] }
 
 -- the row of a number
 abbrev pub row_of : ℕ → List Row → Option Row
@@ -65,17 +75,24 @@ pub record KeepsSlots (k : Kernel) (by : ℕ) (now : Kernel) : Type 0 where
   pub slots : now.objects ≡ slots_after k.objects call
   pub may : MayMake (module_of k by) k.objects call
 
+-- what a change keeps of the kernel's tables: the slots but for one call, the waits but for calls of
+-- theirs, and their counts but for one more of each
+pub record KeepsTables (k : Kernel) (by : ℕ) (c : Change) : Type 0 where
+  pub slots : KeepsSlots k by c.kernel
+  pub waits : IsSound k → IsCaller k by → CallsWaits k c
+  pub counts : RaisesCounts 1 k c.kernel
+
 -- an answer that isn't a refusal: any but a status that is neither SUCCESS nor SUSPEND_LIFTED
 abbrev pub IsNoRefusal : Answer → Type 0
 IsNoRefusal answer = (c : ℕ) → answer ≡ Code c → c ≢ success → c ≢ suspend_lifted → ⊥
 
 -- what the outcome of a row keeps: bytes outside of its ranges, all where it is a refusal, the
--- caller's registers, and the slots but for one call
+-- caller's registers, and the tables
 pub record IsKept (ranges : List Range) (k : Kernel) (g : Memory) (by : ℕ) (o : Outcome) : Type 0 where
   pub alone : IsSoundMemory g → WritesAlone ranges g o.change.memory
   pub refusal : (c : ℕ) → o.answer ≡ Code c → c ≢ success → c ≢ suspend_lifted → o ≡ answered k g c
   pub caller : KeepsCaller k by o.change.kernel
-  pub slots : KeepsSlots k by o.change.kernel
+  pub tables : KeepsTables k by o.change
 
 abbrev pub IsRow : Row → Type 0
 IsRow r =
@@ -89,17 +106,22 @@ RunningCalls = (k : Kernel) (by : ℕ) → IsSound k → k.ready.run ≡ Some by
 abbrev pub AnsweredIsKept : Type 0
 AnsweredIsKept = (r : List Range) (k : Kernel) (g : Memory) (by c : ℕ) → IsKept r k g by (answered k g c)
 
+-- a change that leaves waits and timeouts keeps the tables
+abbrev pub LeftKeepsTables : Type 0
+LeftKeepsTables =
+    (k : Kernel) (by : ℕ) (c : Change) → LeavesWaits k c → KeepsSlots k by c.kernel → KeepsTables k by c
+
 -- a change of the kernel alone
 abbrev pub ChangedIsKept : Type 0
 ChangedIsKept =
     (r : List Range) (k : Kernel) (g : Memory) (by : ℕ) (now : Change) (answer : Answer) → IsNoRefusal answer
-    → now.memory ≡ g → KeepsCaller k by now.kernel → KeepsSlots k by now.kernel
+    → now.memory ≡ g → KeepsCaller k by now.kernel → KeepsTables k by now
     → IsKept r k g by (answering now answer)
 
 abbrev pub DoneIsKept : Type 0
 DoneIsKept =
     (r : List Range) (k : Kernel) (g : Memory) (by : ℕ) (now : Change)
-    → now.memory ≡ g → KeepsCaller k by now.kernel → KeepsSlots k by now.kernel
+    → now.memory ≡ g → KeepsCaller k by now.kernel → KeepsTables k by now
     → IsKept r k g by (done now)
 
 -- a change of the kernel, and words that are written to a pointer that isn't refused
@@ -107,7 +129,7 @@ abbrev pub WrittenIsKept : Type 0
 WrittenIsKept =
     (k : Kernel) (g : Memory) (by : ℕ) (now : Kernel) (m x : ℕ) (ws : List ℕ) → 0 < length ws
     → pointer_refusal g m Store x (4 * length ws) ≡ None
-    → KeepsCaller k by now → KeepsSlots k by now
+    → KeepsCaller k by now → KeepsTables k by (quiet now (with_words g x ws))
     → IsKept (allowed g m (range x (4 * length ws) ∷ [])) k g by (done (quiet now (with_words g x ws)))
 
 -- what comes after a test

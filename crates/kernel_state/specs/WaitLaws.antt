@@ -1,23 +1,26 @@
 -- The beginning and the end of a wait, and a tick, keep a kernel sound; by how much they raise its
 -- counts; and what the end of a thread leaves alone.
-use Rattle.std.specs.Prelude.{◌≡◌, ◌≢◌, ◌⊎◌, ℕ, ◌^◌, ◌<◌, true, List, IsSome}
+use Rattle.std.specs.Prelude.{◌≡◌, ◌≢◌, ◌⊎◌, ℕ, ◌^◌, ◌<◌, true, false, List, ◌++◌, IfSome, IsSome}
 use Rattle.tx_types.specs.declared.state.State.{State}
 use Rattle.tx_types.specs.declared.state.State.TheVariants.{Completed, Terminated}
 use Rattle.tx_types.specs.declared.waits.End.{End}
 use Rattle.tx_types.specs.declared.waits.End.TheVariants.{Gone}
 use Rattle.ready_maps.specs.Sched.{is_ready}
 use Rattle.region_guard.specs.Memory.{Memory}
+use Rattle.suspend_lists.specs.Wait.{place, place_count}
 use Rattle.suspend_lists.specs.Waits.{IsTable, WaitTable, begun, wait_of}
 use Rattle.suspend_lists.specs.declared.wait.Wait.{Wait}
 use Rattle.soft_timers.specs.Timers.{TimerTable}
-use Rattle.kernel_state.specs.Kernel.{is_thread}
+use Rattle.kernel_state.specs.Change.{Change, quiet}
+use Rattle.kernel_state.specs.Kernel.{is_thread, thread}
 use Rattle.kernel_state.specs.Room.{HasRoom, RaisesCounts}
 use Rattle.kernel_state.specs.Serves.{Serves}
 use Rattle.kernel_state.specs.Sound.{IsSound, IsSoundBut, IsWait}
+use Rattle.kernel_state.specs.Thread.{is_waiting}
 use Rattle.kernel_state.specs.ThreadChanges.{ended, over_by}
 use Rattle.kernel_state.specs.ThreadLaws.{Leaves}
 use Rattle.kernel_state.specs.Ticks.{advanced}
-use Rattle.kernel_state.specs.WaitCalls.{CallsWaits}
+use Rattle.kernel_state.specs.WaitCalls.{CallsWaits, LeavesWaits, OnlyEnds}
 use Rattle.kernel_state.specs.Waiting.{wait_begun, wait_ended}
 use Rattle.kernel_state.specs.declared.kernel.Kernel.{Kernel}
 
@@ -67,7 +70,14 @@ EndChangesOne =
     (k : Kernel) (g : Memory) (t : ℕ) (state : State) → let now = (ended k g t state).kernel in
     now ≡ with_waits (over_by k t state) now.waits now.wheel
 
--- the end of a wait and of a thread, and a tick, change the waits by calls of their table alone
+-- the beginning and the end of a wait, the end of a thread, and a tick change the waits by calls of
+-- their table alone
+abbrev pub BeginCallsWaits : Type 0
+BeginCallsWaits =
+    (k : Kernel) (g : Memory) (t : ℕ) (w : Wait) (ticks : ℕ) → IsSound k → is_thread k t ≡ true
+    → is_waiting (thread k t).state ≡ false → IfSome (place w.on) (λ p. p < place_count)
+    → CallsWaits k (quiet (wait_begun k t w ticks) g)
+
 abbrev pub WaitEndCallsWaits : Type 0
 WaitEndCallsWaits =
     (k : Kernel) (g : Memory) (t : ℕ) (e : End) (value : List ℕ) → IsSound k → IsSome (wait_of k.waits t) → e ≢ Gone
@@ -80,3 +90,19 @@ EndCallsWaits =
 
 abbrev pub TickCallsWaits : Type 0
 TickCallsWaits = (k : Kernel) (g : Memory) → Serves k g → HasRoom k → CallsWaits k (advanced k g)
+
+-- so does a change that leaves them, by none; and so do two changes, where the first begins no wait
+-- and the second leaves over who was
+abbrev pub LeftCallsWaits : Type 0
+LeftCallsWaits = (k : Kernel) (c : Change) → LeavesWaits k c → CallsWaits k c
+
+abbrev pub FollowedCallsWaits : Type 0
+FollowedCallsWaits =
+    (k : Kernel) (c d : Change) → CallsWaits k c → OnlyEnds k c.kernel → CallsWaits c.kernel d
+    → OnlyEnds c.kernel d.kernel → CallsWaits k (record d { ends = c.ends ++ d.ends })
+
+-- by the end of a thread no wait begins
+abbrev pub EndOnlyEnds : Type 0
+EndOnlyEnds =
+    (k : Kernel) (g : Memory) (t : ℕ) (state : State) → (state ≡ Completed) ⊎ (state ≡ Terminated)
+    → OnlyEnds k (ended k g t state).kernel

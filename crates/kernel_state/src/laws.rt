@@ -5,8 +5,8 @@ ghost use Rattle.std.specs.Prelude.{ℕ, List};
 ghost use Rattle.tx_types.specs.declared.kind.Kind.{Kind};
 ghost use Rattle.kernel_state.specs.Scheduling.{ReadyChangesOne, UnreadyChangesOne, YieldChangesNone, ThresholdChangesOne, PriorityChangesOne};
 ghost use Rattle.kernel_state.specs.Laws.{EffectiveStays, EffectiveFits, SoundFrom, OneThreadChanges, OneStateChanges, OneWaitChanges, OneHartChanges, OneSlotChanges, OneSpotChanges, OneThreadIsMade, OneThreadIsRemoved, RunningIsReady, ReadyIsThread, ThreadIsRight, WaiterHasWait};
-ghost use Rattle.kernel_state.specs.Row.{AnsweredIsKept, ChangedIsKept, DoneIsKept, WrittenIsKept, UnlessIsKept, FoundIsKept, GivenIsKept, EitherIsKept, RunningCalls};
-ghost use Rattle.kernel_state.specs.WaitLaws.{BeginKeepsSound, WaitEndKeepsSound, TickKeepsServing, BeginRaisesOne, WaitEndRaisesNone, EndRaisesNone, TickRaisesOne, EndKeepsMemory, EndChangesOne};
+ghost use Rattle.kernel_state.specs.Row.{LeftKeepsTables, AnsweredIsKept, ChangedIsKept, DoneIsKept, WrittenIsKept, UnlessIsKept, FoundIsKept, GivenIsKept, EitherIsKept, RunningCalls};
+ghost use Rattle.kernel_state.specs.WaitLaws.{BeginKeepsSound, WaitEndKeepsSound, TickKeepsServing, BeginRaisesOne, WaitEndRaisesNone, EndRaisesNone, TickRaisesOne, EndKeepsMemory, EndChangesOne, BeginCallsWaits, WaitEndCallsWaits, EndCallsWaits, TickCallsWaits, LeftCallsWaits, FollowedCallsWaits, EndOnlyEnds};
 ghost use Rattle.kernel_state.specs.ThreadLaws.{ReadyKeepsSound, UnreadyKeepsSound, HeldKeepsSound, FreshKeepsSound, EndKeepsSound, StartKeepsServing, SuspendKeepsServing, EndKeepsServing, ResetKeepsServing};
 
 use flat_ram::a_write_changes_its_range_alone;
@@ -107,6 +107,22 @@ pub fn a_change_raises_counts_by_one()
     ensures tick { TickRaisesOne }
 {}
 
+/// Waits change by calls of their table alone, where one begins or ends, where a thread ends, and at a
+/// tick: by the calls the waits end that the change says, and as gone only with their threads. A change
+/// that leaves the waits is of no call, and two changes are of the calls of both.
+pub fn a_change_calls_waits()
+    ensures begins { BeginCallsWaits }
+    ensures wait_ends { WaitEndCallsWaits }
+    ensures thread_ends { EndCallsWaits }
+    ensures only_ends { EndOnlyEnds }
+    ensures tick { TickCallsWaits }
+    ensures left { LeftCallsWaits }
+    ensures followed { FollowedCallsWaits }
+{
+    a_wait_keeps_sound();
+    calls_keep_the_wheel();
+}
+
 /// What the end of a thread leaves alone, whether it waits or not.
 pub fn an_end_changes_its_thread_alone()
     ensures memory { EndKeepsMemory }
@@ -139,10 +155,11 @@ pub fn who_runs_is_a_thread()
 {}
 
 /// What each part of a row keeps: that bytes change in its ranges alone, that a refusal comes with no
-/// change, that the caller has its registers afterwards, and that slots change by one call of their
-/// table at most.
+/// change, that the caller has its registers afterwards, that slots change by one call of their table
+/// at most, waits by calls of theirs, and counts by one at most.
 pub fn a_row_is_made_of_parts()
     ensures calls { RunningCalls }
+    ensures left { LeftKeepsTables }
     ensures answered { AnsweredIsKept }
     ensures changed { ChangedIsKept }
     ensures done { DoneIsKept }

@@ -1,6 +1,6 @@
 use Rattle.std.proofs.Common.{ℕ, List}
 use Rattle.tx_types.specs.declared.kind.Kind.{Kind}
-use Rattle.kernel_state.proofs.Row.{running_calls, answered_is_kept, changed_is_kept, done_is_kept, written_is_kept, unless_is_kept, found_is_kept, given_is_kept, either_is_kept}
+use Rattle.kernel_state.proofs.Row.{running_calls, left_keeps_tables, answered_is_kept, changed_is_kept, done_is_kept, written_is_kept, unless_is_kept, found_is_kept, given_is_kept, either_is_kept}
 use Rattle.kernel_state.proofs.laws.a_row_is_made_of_parts.Goals as goal
 
 pub returns : goal.returns
@@ -8,6 +8,7 @@ returns c =
     let who = c.who_runs_is_a_thread.ensures in
     record {
       calls = running_calls who.running_is_ready who.ready_is_thread;
+      left = left_keeps_tables;
       answered = answered_is_kept;
       changed = changed_is_kept;
       done = done_is_kept;
