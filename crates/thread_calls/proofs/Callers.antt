@@ -64,7 +64,7 @@ ended_kept one k g by t state =
     (λ runs. hart_kept k by t (record (thread k t) { state = state; held = false }) refl))
 
 -- what a refusal by a test lets pass
-passed : (b : Bool) (c : ℕ) → refused b c ≡ None → b ≡ false
+pub passed : (b : Bool) (c : ℕ) → refused b c ≡ None → b ≡ false
 passed b c free = cond_both b (Some c) None (λ (o : Option ℕ). o ≡ None → b ≡ false) (λ yes same. cc) (λ no same. no) free
 
 -- a thread that is over isn't the caller

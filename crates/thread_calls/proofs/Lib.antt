@@ -2,5 +2,9 @@ pub mod Callers
 pub mod Created
 pub mod EachRow
 pub mod NumberChanges
+pub mod ObjectRows
+pub mod Parts
 pub mod SlotChanges
 pub mod Slots
+pub mod Tables
+pub mod ThreadRows

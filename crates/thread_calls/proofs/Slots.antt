@@ -14,7 +14,7 @@ use Rattle.object_grants.specs.declared.slot.Slot.{Slot}
 use Rattle.object_grants.specs.declared.slot.SlotState.TheVariants.{Free, Empty, Live}
 use Rattle.region_guard.specs.Memory.{Memory}
 use Rattle.kernel_state.specs.Change.{Change, quiet}
-use Rattle.kernel_state.specs.Kernel.{module_of, placed, removed_thread, thread}
+use Rattle.kernel_state.specs.Kernel.{has_thread, is_thread, module_of, placed, removed_thread, thread}
 use Rattle.kernel_state.specs.Row.{KeepsSlots}
 use Rattle.kernel_state.specs.Tests.{named, reserved}
 use Rattle.kernel_state.specs.Thread.{is_over, is_state, is_waiting}
@@ -35,6 +35,13 @@ passes slots r test o =
     let here : slot_of r ≡ o = cc in
     subst (λ i. test (slot slots i) ≡ true) here (and_parts (names slots r) (test (slot slots (slot_of r))) both).1)
     (λ none same. cc)
+
+-- a thread that is named is one
+pub named_live : (k : Kernel) (by r t : ℕ) → named k by r Thread ≡ Some t → is_thread k t ≡ true
+named_live k by r t is =
+    let s = slot k.objects t in
+    let m = module_of k by in
+    (and_parts (has_thread s) (owns m s || is_granted m s) (passes k.objects r (is_live_for m Thread) t is)).0
 
 -- an object, and a slot that is reserved, use their slot
 live_used : (slots : List Slot) (r m : ℕ) (kind : Kind) (o : ℕ) → named_slot slots r (is_live_for m kind) ≡ Some o → is_in Free (slot slots o) ≡ false

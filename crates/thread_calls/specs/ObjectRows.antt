@@ -1,5 +1,5 @@
 -- The services on object slots, a row each (ThreadX Modules User Guide, "Module APIs": object allocation and search).
-use Rattle.std.specs.Prelude.{ℕ, List, position, if◌then◌else◌}
+use Rattle.std.specs.Prelude.{ℕ, List, [], ◌∷◌, position, if◌then◌else◌}
 use Rattle.tx_types.specs.Code.{ptr_error, option_error, no_instance, no_memory}
 use Rattle.tx_types.specs.Kind.{kind_of}
 use Rattle.tx_types.specs.declared.kind.Kind.{Kind}
@@ -13,6 +13,7 @@ use Rattle.kernel_state.specs.Kernel.{module_of}
 use Rattle.kernel_state.specs.Change.{quiet}
 use Rattle.kernel_state.specs.Outcome.{Outcome, answered, done, unless, found, given}
 use Rattle.kernel_state.specs.Registers.{arg}
+use Rattle.kernel_state.specs.Row.{Row, row, row_to}
 use Rattle.kernel_state.specs.Tests.{caller_refusal}
 use Rattle.kernel_state.specs.declared.kernel.Kernel.{Kernel}
 
@@ -44,3 +45,11 @@ object_pointer_get_row k g by a =
     given k g (name_at g (module_of k by) (arg a 1)) (λ name.
     unless k g (caller_refusal k g by Store (arg a 2) 4)
     (found k g no_instance (position (has_name kind name) k.objects) (λ o. granting k g by o (arg a 2)))))
+
+-- each by its number in a7, which is this board's own, with what it does and where it writes
+abbrev pub object_rows : List Row
+object_rows =
+    row_to 1 4 0x01 object_allocate_row
+    ∷ row 0x02 object_deallocate_row
+    ∷ row_to 2 4 0x03 object_pointer_get_row
+    ∷ []

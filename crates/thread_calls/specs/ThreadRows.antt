@@ -1,5 +1,5 @@
 -- The thread services, a row each: the refusals from left to right, then the change (ThreadX User Guide, "Thread Services").
-use Rattle.std.specs.Prelude.{ℕ, ◌==◌, false, not, nat_le, nat_lt, List, [], if◌then◌else◌}
+use Rattle.std.specs.Prelude.{ℕ, ◌==◌, false, not, nat_le, nat_lt, List, [], ◌∷◌, if◌then◌else◌}
 use Rattle.tx_types.specs.Code.{success, thread_error, priority_error, delete_error, resume_error, suspend_error, thresh_error, suspend_lifted, wait_abort_error, not_done}
 use Rattle.tx_types.specs.declared.kind.Kind.TheVariants.{Thread}
 use Rattle.tx_types.specs.declared.state.State.TheVariants.{Completed, Terminated, Suspended}
@@ -17,6 +17,7 @@ use Rattle.kernel_state.specs.Kernel.{thread, module_of, removed_thread, effecti
 use Rattle.kernel_state.specs.Change.{quiet}
 use Rattle.kernel_state.specs.Outcome.{Outcome, answering, answered, done, unless, found, given, refused}
 use Rattle.kernel_state.specs.Registers.{arg}
+use Rattle.kernel_state.specs.Row.{Row, row, row_to}
 use Rattle.kernel_state.specs.Tests.{named, reserved, owner_refusal, caller_refusal}
 use Rattle.kernel_state.specs.Thread.{is_over, is_state, is_waiting}
 use Rattle.kernel_state.specs.ThreadChanges.{started, suspended, with_held, ended, reset}
@@ -137,3 +138,23 @@ thread_wait_abort_row k g by a =
     found k g thread_error (named k by (arg a 0) Thread) (λ t.
     unless k g (refused (not (is_waiting (thread k t).state)) wait_abort_error)
     (done (wait_ended k g t Aborted [])))
+
+-- each by its number in a7, which is this board's own, with what it does and where it writes
+abbrev pub thread_rows : List Row
+thread_rows =
+    row 0x10 thread_create_row
+    ∷ row 0x11 thread_delete_row
+    ∷ row 0x12 thread_terminate_row
+    ∷ row 0x13 thread_suspend_row
+    ∷ row 0x14 thread_resume_row
+    ∷ row 0x15 thread_sleep_row
+    ∷ row 0x16 thread_relinquish_row
+    ∷ row 0x17 thread_identify_row
+    ∷ row_to 1 32 0x18 thread_info_get_row
+    ∷ row_to 2 4 0x19 thread_preemption_change_row
+    ∷ row_to 2 4 0x1A thread_priority_change_row
+    ∷ row_to 2 4 0x1B thread_time_slice_change_row
+    ∷ row 0x1C thread_wait_abort_row
+    ∷ row 0x1D thread_reset_row
+    ∷ row 0x1F thread_complete_row
+    ∷ []

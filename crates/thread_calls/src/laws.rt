@@ -2,11 +2,12 @@
 //!
 //! Their bodies do nothing; a function calls one where its proof needs the law.
 ghost use Rattle.thread_calls.specs.Laws.{ThresholdKeepsSound, PriorityKeepsSound, SliceKeepsSound, YieldKeepsSound, AllocateKeepsSound, DeallocateKeepsSound, GrantKeepsSound};
-ghost use Rattle.thread_calls.specs.Rows.{EachRowIsOne, EachWaitingRowIsOne};
+ghost use Rattle.thread_calls.specs.Rows.{EachRowIsOne};
 
 use kernel_state::laws::{
-    a_kernel_stays_sound, a_move_leaves_others_alone, a_row_is_made_of_parts,
-    an_effective_pair_fits, an_end_changes_its_thread_alone, who_runs_is_a_thread,
+    a_change_calls_waits, a_change_raises_counts_by_one, a_kernel_stays_sound,
+    a_move_leaves_others_alone, a_row_is_made_of_parts, an_effective_pair_fits,
+    an_end_changes_its_thread_alone, who_runs_is_a_thread,
 };
 
 /// New numbers of a thread, and a yield.
@@ -32,18 +33,14 @@ pub fn a_change_of_slots_keeps_sound()
 }
 
 /// What each service of this crate keeps: that it changes bytes in its ranges alone, refuses with no
-/// change, leaves its caller's registers, and changes slots by one call of their table at most.
+/// change, leaves its caller's registers, changes slots by one call of their table at most and waits
+/// by calls of theirs, and begins one wait and arms one timeout at most.
 pub fn each_row_is_one()
     ensures { EachRowIsOne }
 {
     a_row_is_made_of_parts();
     an_end_changes_its_thread_alone();
-}
-
-/// The same of the services by which a thread sleeps and the wait of another one ends.
-pub fn each_waiting_row_is_one()
-    ensures { EachWaitingRowIsOne }
-{
-    a_row_is_made_of_parts();
-    an_end_changes_its_thread_alone();
+    a_change_calls_waits();
+    a_change_raises_counts_by_one();
+    who_runs_is_a_thread();
 }
