@@ -1,17 +1,22 @@
--- A call writes its result alone; it changes no register of its caller but a0, and one that is refused nothing else.
-use Rattle.std.proofs.Common.{◌≡◌, ℕ, ◌<◌, ◌≤◌, ◌==◌, List, [], length, Option, None, Some, ap, refl, sym, ◌∙◌, subst, ⊎_elim}
+-- A call writes its result alone; it changes no register of its caller but a0, and one that is refused nothing else; slots
+-- and waits it changes by calls of their tables.
+use Rattle.std.proofs.Common.{◌≡◌, ◌≢◌, ℕ, ◌<◌, ◌≤◌, ◌==◌, List, [], length, Option, None, Some, ap, refl, sym, ◌∙◌, subst, ⊎_elim, arith}
 use Rattle.std.specs.List.{slice_index_or}
-use Rattle.std.proofs.lemmas.Bool.{cases_lt}
+use Rattle.std.proofs.lemmas.Bool.{cases_eq, cases_lt}
 use Rattle.std.proofs.lemmas.List.{get_or-set_same, get_or-set_other, set_past}
+use Rattle.std.proofs.lemmas.List.Elements.{All-weaker}
 use Rattle.tx_types.specs.Code.{feature_not_enabled}
 use Rattle.rv_core.specs.Hart.{HartState, with_register}
 use Rattle.region_guard.specs.Memory.{Memory}
+use Rattle.soft_timers.specs.Timers.{TimerTable}
+use Rattle.suspend_lists.specs.Waits.{WaitTable}
 use Rattle.kernel_state.specs.Kernel.{module_of, thread}
 use Rattle.kernel_state.specs.Outcome.{Outcome, answering}
 use Rattle.kernel_state.specs.Range.{allowed}
 use Rattle.kernel_state.specs.Row.{AnsweredIsKept, IsKept, IsRow, Row, RunningCalls, called, row_of}
 use Rattle.kernel_state.specs.Registers.{arguments, number_asked, with_a0}
-use Rattle.kernel_state.specs.Thread.{blank_thread}
+use Rattle.kernel_state.specs.Thread.{blank_thread, is_over}
+use Rattle.kernel_state.specs.WaitCalls.{EndsWithItsThread}
 use Rattle.kernel_state.specs.declared.answer.Answer.{Answer}
 use Rattle.kernel_state.specs.declared.answer.Answer.TheVariants.{Code, Value, Waits, Ended}
 use Rattle.kernel_state.specs.declared.kernel.Kernel.{Kernel}
@@ -19,7 +24,7 @@ use Rattle.kernel_state.specs.declared.thread.Thread.{Thread}
 use Rattle.thread_calls.specs.Rows.{EachRowIsOne}
 use Rattle.call_dispatch.specs.Caller.{CallChangesA0Alone, ChangesA0Alone}
 use Rattle.call_dispatch.specs.Ecall.{dispatched, with_answer}
-use Rattle.call_dispatch.specs.Laws.{CallWritesItsResultAlone, RefusalChangesNothing, RefusedCallChangesA0Alone, NoRowChangesA0Alone, CallChangesSlotsOnce}
+use Rattle.call_dispatch.specs.Laws.{CallWritesItsResultAlone, RefusalChangesNothing, RefusedCallChangesA0Alone, NoRowChangesA0Alone, CallChangesSlotsOnce, CallRaisesCountsByOne, CallCallsWaits}
 use Rattle.call_dispatch.specs.Rows.{call_result, call_row, row_asked, row_writes, rows}
 use Rattle.call_dispatch.proofs.Numbers.{find_holds}
 
@@ -104,5 +109,67 @@ unfolding dispatched
 call_changes_slots_once lower k g t =
     let h = (thread k t).hart in
     let o = call_row (number_asked h) k g t (arguments h) in
-    let kept = (call_is_kept lower (number_asked h) k g t (arguments h)).slots in
+    let kept = (call_is_kept lower (number_asked h) k g t (arguments h)).tables.slots in
     record { call = kept.call; slots = answer-objects o.change.kernel t o.answer ∙ kept.slots; may = kept.may }
+
+-- an answer begins and ends no wait, arms nothing, and leaves every thread's state
+answer-waits : (k : Kernel) (t : ℕ) (answer : Answer) → (with_answer k t answer).waits ≡ k.waits
+unfolding with_answer
+answer-waits k t (Code c) = refl
+answer-waits k t (Value v) = refl
+answer-waits k t Waits = refl
+answer-waits k t Ended = refl
+
+answer-wheel : (k : Kernel) (t : ℕ) (answer : Answer) → (with_answer k t answer).wheel ≡ k.wheel
+unfolding with_answer
+answer-wheel k t (Code c) = refl
+answer-wheel k t (Value v) = refl
+answer-wheel k t Waits = refl
+answer-wheel k t Ended = refl
+
+a0-state : (k : Kernel) (t v u : ℕ) → (thread (with_a0 k t v) u).state ≡ (thread k u).state
+a0-state k t v u =
+    let put : Thread = record (thread k t) { hart = with_register (thread k t).hart 10 v } in
+    ⊎_elim
+    (λ (same : u ≡ t). subst (λ n. (thread (with_a0 k t v) n).state ≡ (thread k n).state) (sym same)
+    (⊎_elim
+    (λ (within : t < length k.threads). ap (λ (x : Thread). x.state) (get_or-set_same k.threads t put blank_thread within))
+    (λ (past : length k.threads ≤ t). ap (λ ts. (slice_index_or ts t blank_thread).state) (set_past k.threads t put past))
+    (cases_lt t (length k.threads))))
+    (λ (other : u ≢ t). ap (λ (x : Thread). x.state) (get_or-set_other k.threads t u put blank_thread other))
+    (cases_eq u t)
+
+answer-state : (k : Kernel) (t u : ℕ) (answer : Answer) → (thread (with_answer k t answer) u).state ≡ (thread k u).state
+unfolding with_answer
+answer-state k t u (Code c) = a0-state k t c u
+answer-state k t u (Value v) = a0-state k t v u
+answer-state k t u Waits = refl
+answer-state k t u Ended = refl
+
+pub call_raises_counts_by_one : Lower → CallRaisesCountsByOne
+unfolding dispatched
+call_raises_counts_by_one lower k g t =
+    let h = (thread k t).hart in
+    let o = call_row (number_asked h) k g t (arguments h) in
+    let counts = (call_is_kept lower (number_asked h) k g t (arguments h)).tables.counts in
+    let waits = ap (λ (w : WaitTable). w.totals.begun) (answer-waits o.change.kernel t o.answer) in
+    let armings = ap (λ (h : TimerTable). h.armings) (answer-wheel o.change.kernel t o.answer) in
+    let ticks = ap (λ (h : TimerTable). h.ticks) (answer-wheel o.change.kernel t o.answer) in
+    record { begun = omega (arith, waits, counts.begun); armings = omega (arith, armings, counts.armings); ticks = omega (arith, ticks, counts.ticks) }
+
+pub call_calls_waits : Lower → CallCallsWaits
+unfolding dispatched
+call_calls_waits lower k g t sound runs =
+    let h = (thread k t).hart in
+    let o = call_row (number_asked h) k g t (arguments h) in
+    let now = with_answer o.change.kernel t o.answer in
+    let kept = (call_is_kept lower (number_asked h) k g t (arguments h)).tables.waits sound (lower.calls k t sound runs) in
+    record {
+      calls = kept.calls;
+      waits = answer-waits o.change.kernel t o.answer ∙ kept.waits;
+      may = kept.may;
+      ends = kept.ends;
+      gone = All-weaker (EndsWithItsThread k o.change.kernel) (EndsWithItsThread k now) (λ x its_thread gone.
+          let at = its_thread gone in
+          (at.0, at.1, at.2, ap is_over (answer-state o.change.kernel t at.0 o.answer) ∙ at.3)) o.change.ends kept.gone;
+    }

@@ -2,6 +2,7 @@
 //!
 //! The caller's pc is past its ECALL already; a0 is all that is written here, and of the caller alone.
 ghost use Rattle.std.specs.Prelude.{◌≡◌, Some};
+ghost use Rattle.kernel_state.specs.Room.{HasRoom};
 ghost use Rattle.kernel_state.specs.Serves.{Serves};
 ghost use Rattle.kernel_state.specs.Sound.{IsSound};
 ghost use Rattle.kernel_state.specs.Kernel.{thread};
@@ -21,6 +22,7 @@ use tx_types::ThreadNo;
 pub fn dispatch(k: &mut Kernel, g: &mut Guard, t: ThreadNo)
     requires serves { Serves k.old g.old }
     requires runs { k.old.ready.run ≡ Some t }
+    requires room { HasRoom k.old }
     ensures kernel { k.new ≡ (dispatched k.old g.old t).change.kernel }
     ensures memory { g.new ≡ (dispatched k.old g.old t).change.memory }
     ensures caller { ChangesA0Alone (thread k.old t).hart (thread k.new t).hart }

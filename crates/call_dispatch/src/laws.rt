@@ -2,7 +2,7 @@
 //!
 //! Their bodies do nothing; a function calls one where its proof needs the law.
 ghost use Rattle.call_dispatch.specs.Caller.{CallChangesA0Alone};
-ghost use Rattle.call_dispatch.specs.Laws.{NumberNamesItsRow, RowHasItsNumber, CallWritesItsResultAlone, RefusalChangesNothing, RefusedCallChangesA0Alone, NoRowChangesA0Alone, CallChangesSlotsOnce};
+ghost use Rattle.call_dispatch.specs.Laws.{NumberNamesItsRow, RowHasItsNumber, CallWritesItsResultAlone, RefusalChangesNothing, RefusedCallChangesA0Alone, NoRowChangesA0Alone, CallChangesSlotsOnce, CallRaisesCountsByOne, CallCallsWaits};
 
 use kernel_state::laws::a_row_is_made_of_parts;
 use thread_calls::laws::each_row_is_one;
@@ -45,6 +45,23 @@ pub fn a_call_changes_its_a0_alone()
 /// module, whatever it asks for.
 pub fn a_call_changes_slots_once()
     ensures { CallChangesSlotsOnce }
+{
+    a_row_is_made_of_parts();
+    each_row_is_one();
+}
+
+/// A call begins one wait at most and arms one timeout at most, and no tick comes with it.
+pub fn a_call_raises_counts_by_one()
+    ensures { CallRaisesCountsByOne }
+{
+    a_row_is_made_of_parts();
+    each_row_is_one();
+}
+
+/// A call changes the waits by calls of their table alone, each of which may be made in its turn, and
+/// ends those that it says; a wait as gone only with its thread.
+pub fn a_call_calls_waits()
+    ensures { CallCallsWaits }
 {
     a_row_is_made_of_parts();
     each_row_is_one();

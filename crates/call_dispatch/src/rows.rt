@@ -2,6 +2,7 @@
 //!
 //! A number without a row is refused here; every other refusal is the service's own.
 ghost use Rattle.std.specs.Prelude.{◌≡◌, Some};
+ghost use Rattle.kernel_state.specs.Room.{HasRoom};
 ghost use Rattle.kernel_state.specs.Serves.{Serves};
 ghost use Rattle.call_dispatch.specs.Rows.{call_row};
 
@@ -16,6 +17,7 @@ use tx_types::{Code, ThreadNo};
 pub(crate) fn call(k: &mut Kernel, g: &mut Guard, by: ThreadNo, number: u32, a: &Args) -> Answer
     requires serves { Serves k.old g.old }
     requires runs { k.old.ready.run ≡ Some by }
+    requires room { HasRoom k.old }
     ensures kernel { k.new ≡ (call_row number k.old g.old by a.now).change.kernel }
     ensures memory { g.new ≡ (call_row number k.old g.old by a.now).change.memory }
     ensures answer { result ≡ (call_row number k.old g.old by a.now).answer }
