@@ -125,3 +125,8 @@ slots_cleared-sound-free changes removes m k g sound over =
 pub slots_cleared-memory : (k : Kernel) (g : Memory) (m : ℕ) → (slots_cleared k g m).memory ≡ g
 slots_cleared-memory k g m =
     for_each_slot_memory (clearing m) (λ j h o. cond_both (owns m (slot j.objects o)) _ (quiet j h) (λ (c : Change). c.memory ≡ h) (λ _. refl) (λ _. refl)) k g
+
+-- and no thread's entry
+pub slots_cleared-thread : (m : ℕ) (k : Kernel) (g : Memory) (t : ℕ) → thread (slots_cleared k g m).kernel t ≡ thread k t
+slots_cleared-thread m k g t =
+    for_each_slot_keeps (λ n j. thread j t ≡ thread k t) (clearing m) (λ n j h below same. clearing-thread m j h n t ∙ same) k g refl

@@ -13,10 +13,11 @@ use Rattle.kernel_state.specs.Thread.{is_over}
 use Rattle.kernel_state.specs.declared.kernel.Kernel.{Kernel}
 use Rattle.kernel_state.specs.declared.thread.Thread.{Thread}
 use Rattle.module_manager.specs.Halt.{clearing, ending, halted, slots_cleared, threads_ended, ties_ended, ungranting}
-use Rattle.module_manager.specs.Laws.{HaltEndsCallback, HaltEndsGrants, HaltEndsSlots, HaltKeepsMemory, HaltKeepsServing, HaltLeavesThreads, HaltSparesSlots, HaltSparesThreads}
-use Rattle.module_manager.proofs.Clearing.{slots_cleared-memory, slots_cleared-sound-free, by_clearing, clearing-other, clearing-thread, owner-thread, owner_is, owns-thread}
+use Rattle.module_manager.specs.Laws.{HaltEndsCallback, HaltEndsGrants, HaltEndsSlots, HaltKeepsMemory, HaltKeepsServing, HaltSparesSlots, HaltSparesThreads}
+use Rattle.module_manager.proofs.Clearing.{slots_cleared-memory, slots_cleared-sound-free, slots_cleared-thread, by_clearing, clearing-other, clearing-thread, owner-thread, owner_is, owns-thread}
 use Rattle.module_manager.proofs.Ending.{Ends, threads_ended-memory, threads_ended-running, threads_ended-sound-over, below_256, by_ending, ending-objects, ending-other}
 use Rattle.module_manager.proofs.Folds.{for_each_slot_keeps}
+use Rattle.module_manager.proofs.HaltedWaits.{after_threads-leaves}
 use Rattle.module_manager.proofs.Ungranting.{ties_ended-grants, ties_ended-is, ties_ended-memory, ties_ended-owns, ties_ended-thread, without_grant-thread}
 
 -- the laws of the layer below
@@ -54,11 +55,7 @@ threads_ended-spares : Ends → (m : ℕ) (k : Kernel) (g : Memory) (t : ℕ) �
 threads_ended-spares ends m k g t other_module =
     for_each_slot_keeps (λ n j. thread j t ≡ thread k t) (ending m) (λ n j h below same. one-ending-spares ends m k j h t n other_module same) k g refl
 
--- the slots' end leaves every thread's entry, and each slot that isn't the module's
-slots_cleared-thread : (m : ℕ) (k : Kernel) (g : Memory) (t : ℕ) → thread (slots_cleared k g m).kernel t ≡ thread k t
-slots_cleared-thread m k g t =
-    for_each_slot_keeps (λ n j. thread j t ≡ thread k t) (clearing m) (λ n j h below same. clearing-thread m j h n t ∙ same) k g refl
-
+-- the slots' end leaves each slot that isn't the module's
 one-clearing-spares : (m : ℕ) (k j : Kernel) (h : Memory) (o n : ℕ) → owns m (slot k.objects o) ≡ false → slot j.objects o ≡ slot k.objects o
     → slot (clearing m j h n).kernel.objects o ≡ slot k.objects o
 one-clearing-spares m k j h o n others same =
@@ -70,15 +67,6 @@ one-clearing-spares m k j h o n others same =
 slots_cleared-spares : (m : ℕ) (k : Kernel) (g : Memory) (o : ℕ) → owns m (slot k.objects o) ≡ false → slot (slots_cleared k g m).kernel.objects o ≡ slot k.objects o
 slots_cleared-spares m k g o others =
     for_each_slot_keeps (λ n j. slot j.objects o ≡ slot k.objects o) (clearing m) (λ n j h below same. one-clearing-spares m k j h o n others same) k g refl
-
--- and no timeout
-slots_cleared-wheel : (m : ℕ) (k : Kernel) (g : Memory) → (slots_cleared k g m).kernel.wheel ≡ k.wheel
-slots_cleared-wheel m k g =
-    for_each_slot_keeps (λ n j. j.wheel ≡ k.wheel) (clearing m)
-    (λ n j h below same. by_clearing m j h n (λ i. i.wheel ≡ k.wheel) (λ _. same) (λ _ _. same) (λ _ _. same)) k g refl
-
-ties_ended-wheel : (k : Kernel) (g : Memory) (m : ℕ) → (ties_ended k g m).kernel.wheel ≡ k.wheel
-ties_ended-wheel k g m = for_each_slot_keeps (λ n j. j.wheel ≡ k.wheel) (ungranting m) (λ n j h below same. same) k g refl
 
 -- a halt up to its last step
 before_last : Lower → (m : ℕ) (k : Kernel) (g : Memory) → IsSound k
@@ -93,7 +81,7 @@ halt-sound lower k g m sound = (ties_ended-is lower.changes m (kernel_3 k g m) (
 pub halt_keeps_serving : Lower → HaltKeepsServing
 halt_keeps_serving lower k g m serves = record {
   sound = halt-sound lower k g m serves.sound;
-  running = subst IsRunning (sym (ties_ended-wheel (kernel_3 k g m) (memory_3 k g m) m ∙ slots_cleared-wheel m (kernel_1 k g m) (memory_1 k g m)))
+  running = subst IsRunning (sym (after_threads-leaves (kernel_1 k g m) (memory_1 k g m) m).wheel)
       (threads_ended-running lower.ends.serving m k g serves);
 }
 
@@ -108,8 +96,10 @@ halt_spares_slots lower k g m o sound below others =
     (ties_ended-is lower.changes m (kernel_3 k g m) (memory_3 k g m) last.0).1 o below
     ∙ ap (without_grant m) (slots_cleared-spares m (kernel_1 k g m) (memory_1 k g m) o (ap (owns m) stays ∙ others) ∙ stays)
 
-pub halt_leaves_threads : Lower → HaltLeavesThreads
-halt_leaves_threads lower k g m t sound live other_module =
+-- as long as no thread waits for another module's object, each of another module is the same after
+halt-others : Lower → (k : Kernel) (g : Memory) (m t : ℕ) → IsSound k → is_thread k t ≡ true → module_of k t ≢ m
+    → (is_thread (halted k g m).kernel t ≡ true) × (thread (halted k g m).kernel t ≡ thread k t)
+halt-others lower k g m t sound live other_module =
     let others = false_from_ne_true (owns m (slot k.objects t)) (λ own. other_module (owner-thread k t sound live ∙ owner_is m (slot k.objects t) own)) in (
       ap has_thread (halt_spares_slots lower k g m t sound (below_256 k t sound live) others) ∙ (without_grant-thread m (slot k.objects t) ∙ live),
       ties_ended-thread m (kernel_3 k g m) (memory_3 k g m) t
@@ -118,7 +108,7 @@ halt_leaves_threads lower k g m t sound live other_module =
 
 pub halt_spares_threads : Lower → HaltSparesThreads
 halt_spares_threads lower k g m t sound live other_module =
-    let same = halt_leaves_threads lower k g m t sound live other_module in
+    let same = halt-others lower k g m t sound live other_module in
     (same.0, ap (λ (x : Thread). x.module) same.1, ap (λ (x : Thread). is_over x.state) same.1)
 
 pub halt_ends_slots : Lower → HaltEndsSlots

@@ -30,12 +30,6 @@ HaltSparesThreads =
 abbrev pub HaltKeepsMemory : Type 0
 HaltKeepsMemory = (k : Kernel) (g : Memory) (m : ℕ) → (halted k g m).memory ≡ g
 
--- as long as no thread waits for another module's object, each of another module is the same after
-abbrev pub HaltLeavesThreads : Type 0
-HaltLeavesThreads =
-    (k : Kernel) (g : Memory) (m t : ℕ) → IsSound k → is_thread k t ≡ true → module_of k t ≢ m
-    → (is_thread (halted k g m).kernel t ≡ true) × (thread (halted k g m).kernel t ≡ thread k t)
-
 -- a slot that isn't the module's loses the module's grant, and nothing else
 abbrev pub HaltSparesSlots : Type 0
 HaltSparesSlots =

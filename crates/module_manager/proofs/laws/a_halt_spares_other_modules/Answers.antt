@@ -1,4 +1,4 @@
-use Rattle.module_manager.proofs.Halted.{Lower, halt_keeps_memory, halt_leaves_threads, halt_spares_slots, halt_spares_threads}
+use Rattle.module_manager.proofs.Halted.{Lower, halt_keeps_memory, halt_spares_slots, halt_spares_threads}
 use Rattle.module_manager.proofs.laws.a_halt_spares_other_modules.Goals as goal
 
 pub returns : goal.returns
@@ -17,5 +17,4 @@ returns c =
       threads = halt_spares_threads lower;
       slots = halt_spares_slots lower;
       memory = halt_keeps_memory lower;
-      as_they_were = halt_leaves_threads lower;
     }
