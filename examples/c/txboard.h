@@ -148,6 +148,9 @@ static inline UINT tx_thread_suspend(TX_THREAD thread) { return txb_call(0x13, t
 /* Makes a suspended thread ready, or lifts a held suspension (TX_SUSPEND_LIFTED). */
 static inline UINT tx_thread_resume(TX_THREAD thread) { return txb_call(0x14, thread, 0, 0); }
 
+/* The caller sleeps for this many ticks, and goes on at once where they are 0. */
+static inline UINT tx_thread_sleep(ULONG ticks) { return txb_call(0x15, ticks, 0, 0); }
+
 /* Lets the other ready threads of the caller's priority run first. */
 static inline VOID tx_thread_relinquish(VOID) { txb_call(0x16, 0, 0, 0); }
 
@@ -172,6 +175,9 @@ static inline UINT tx_thread_priority_change(TX_THREAD thread, UINT priority, UI
 static inline UINT tx_thread_time_slice_change(TX_THREAD thread, ULONG slice, ULONG *old) {
     return txb_call(0x1B, thread, slice, (ULONG)old);
 }
+
+/* Ends the wait of a thread, whose call answers TX_WAIT_ABORTED. */
+static inline UINT tx_thread_wait_abort(TX_THREAD thread) { return txb_call(0x1C, thread, 0, 0); }
 
 /* Sets a completed or terminated thread back to its entry; it is suspended until it is resumed. */
 static inline UINT tx_thread_reset(TX_THREAD thread) { return txb_call(0x1D, thread, 0, 0); }

@@ -17,6 +17,8 @@ pub const THREAD_SUSPEND: u32 = 0x13;
 
 pub const THREAD_RESUME: u32 = 0x14;
 
+pub const THREAD_SLEEP: u32 = 0x15;
+
 pub const THREAD_RELINQUISH: u32 = 0x16;
 
 pub const THREAD_IDENTIFY: u32 = 0x17;
@@ -28,6 +30,8 @@ pub const THREAD_PREEMPTION_CHANGE: u32 = 0x19;
 pub const THREAD_PRIORITY_CHANGE: u32 = 0x1A;
 
 pub const THREAD_TIME_SLICE_CHANGE: u32 = 0x1B;
+
+pub const THREAD_WAIT_ABORT: u32 = 0x1C;
 
 pub const THREAD_RESET: u32 = 0x1D;
 
@@ -62,6 +66,10 @@ pub const SUSPEND_ERROR: u32 = 0x14;
 pub const THRESH_ERROR: u32 = 0x18;
 
 pub const SUSPEND_LIFTED: u32 = 0x19;
+
+pub const WAIT_ABORTED: u32 = 0x1A;
+
+pub const WAIT_ABORT_ERROR: u32 = 0x1B;
 
 pub const NOT_DONE: u32 = 0x20;
 
