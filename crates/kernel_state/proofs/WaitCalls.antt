@@ -1,8 +1,8 @@
 -- A change treats the waits by calls of their table, each of which may be made in its turn.
-use Rattle.std.proofs.Common.{◌≡◌, ◌≢◌, ◌⊎◌, ℕ, ◌<◌, ◌≤◌, true, false, List, [], ◌∷◌, ◌++◌, All, length, Option, None, Some, IsSome, refl, sym, ap, ◌∙◌, subst, ⊎_elim, append-nil, append_assoc, arith}
+use Rattle.std.proofs.Common.{◌≡◌, ◌≢◌, ◌⊎◌, ℕ, ◌<◌, ◌≤◌, true, false, List, [], ◌∷◌, ◌++◌, All, length, Option, None, Some, refl, sym, ap, ◌∙◌, subst, ⊎_elim, append-nil, append_assoc, arith}
 use Rattle.std.specs.List.{slice_index_or}
 use Rattle.std.specs.Option.{option_map, option_to_list}
-use Rattle.std.proofs.lemmas.Bool.{cases_eq, cases_lt, cond_both, cond-false, false≢true, false_from_ne_true}
+use Rattle.std.proofs.lemmas.Bool.{cases_eq, cases_lt, cond_both, false≢true, false_from_ne_true}
 use Rattle.std.proofs.lemmas.List.{get_or-set_same, get_or-set_other, set_past}
 use Rattle.std.proofs.lemmas.List.Elements.{All-append, All-cons, All-nil, All-same, All-weaker}
 use Rattle.std.proofs.lemmas.Option.{none-some}
@@ -23,7 +23,7 @@ use Rattle.kernel_state.specs.Sound.{IsSound}
 use Rattle.kernel_state.specs.Thread.{blank_thread, is_over, is_waiting}
 use Rattle.kernel_state.specs.ThreadChanges.{ended, ended_now, over_by}
 use Rattle.kernel_state.specs.Ticks.{advanced, tick_counted, turn, turns}
-use Rattle.kernel_state.specs.WaitCalls.{CallsWaits, EndsWithItsThread, OnlyEnds}
+use Rattle.kernel_state.specs.WaitCalls.{CallsWaits, EndsWithItsThread}
 use Rattle.kernel_state.specs.WaitLaws.{BeginCallsWaits, EndCallsWaits, EndOnlyEnds, FollowedCallsWaits, LeftCallsWaits, TickCallsWaits, WaitEndCallsWaits, WaitEndKeepsSound}
 use Rattle.kernel_state.specs.Waiting.{left_wait, wait_begun, wait_ended}
 use Rattle.kernel_state.specs.declared.kernel.Kernel.{Kernel}

@@ -7,14 +7,13 @@ use Rattle.region_guard.specs.Memory.{Memory}
 use Rattle.soft_timers.specs.Timers.{IsRunning}
 use Rattle.kernel_state.specs.Kernel.{thread, has_thread, is_thread, module_of, spot}
 use Rattle.kernel_state.specs.Laws.{OneSlotChanges, OneThreadIsRemoved}
-use Rattle.kernel_state.specs.Serves.{Serves}
 use Rattle.kernel_state.specs.Sound.{IsSound}
 use Rattle.kernel_state.specs.Thread.{is_over}
 use Rattle.kernel_state.specs.declared.kernel.Kernel.{Kernel}
 use Rattle.kernel_state.specs.declared.thread.Thread.{Thread}
-use Rattle.module_manager.specs.Halt.{clearing, ending, halted, slots_cleared, threads_ended, ties_ended, ungranting}
+use Rattle.module_manager.specs.Halt.{clearing, ending, halted, slots_cleared, threads_ended}
 use Rattle.module_manager.specs.Laws.{HaltEndsCallback, HaltEndsGrants, HaltEndsSlots, HaltKeepsMemory, HaltKeepsServing, HaltSparesSlots, HaltSparesThreads}
-use Rattle.module_manager.proofs.Clearing.{slots_cleared-memory, slots_cleared-sound-free, slots_cleared-thread, by_clearing, clearing-other, clearing-thread, owner-thread, owner_is, owns-thread}
+use Rattle.module_manager.proofs.Clearing.{slots_cleared-memory, slots_cleared-sound-free, slots_cleared-thread, by_clearing, clearing-other, owner-thread, owner_is, owns-thread}
 use Rattle.module_manager.proofs.Ending.{Ends, threads_ended-memory, threads_ended-running, threads_ended-sound-over, below_256, by_ending, ending-objects, ending-other}
 use Rattle.module_manager.proofs.Folds.{for_each_slot_keeps}
 use Rattle.module_manager.proofs.HaltedWaits.{after_threads-leaves}

@@ -1,5 +1,5 @@
 -- A halt ends waits by calls of their table, and begins none.
-use Rattle.std.proofs.Common.{◌≡◌, ◌⊎◌, ℕ, ◌==◌, ◌&&◌, true, false, List, [], ◌++◌, refl, sym, ap, ◌∙◌, subst, inr, arith}
+use Rattle.std.proofs.Common.{◌≡◌, ℕ, ◌==◌, ◌&&◌, List, ◌++◌, refl, sym, ap, ◌∙◌, inr, arith}
 use Rattle.std.proofs.lemmas.Bool.{and_parts, cond_both}
 use Rattle.tx_types.specs.End.{WaitEnd}
 use Rattle.tx_types.specs.declared.state.State.TheVariants.{Terminated}

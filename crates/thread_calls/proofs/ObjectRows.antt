@@ -1,5 +1,5 @@
 -- Each row of the services on object slots keeps what every row keeps.
-use Rattle.std.proofs.Common.{ℕ, refl, List, [], ◌∷◌, Some, position, All, lit<}
+use Rattle.std.proofs.Common.{refl, [], ◌∷◌, Some, position, All, lit<}
 use Rattle.tx_types.specs.Code.{ptr_error, option_error, no_instance, no_memory}
 use Rattle.tx_types.specs.Kind.{kind_of}
 use Rattle.call_arguments.specs.Names.{name_at}

@@ -1,13 +1,13 @@
 -- What a service changes of the kernel's tables: slots by one call at most, waits by calls of their table, and counts by
 -- one at most.
-use Rattle.std.proofs.Common.{◌≡◌, ◌≢◌, ◌⊎◌, ℕ, ◌==◌, true, false, nat_le, List, [], Option, None, Some, refl, ap, arith}
+use Rattle.std.proofs.Common.{◌≡◌, ◌≢◌, ◌⊎◌, ℕ, ◌==◌, true, nat_le, List, [], Some, refl, ap, arith}
 use Rattle.std.proofs.lemmas.Bool.{cond_both}
 use Rattle.tx_types.specs.declared.kind.Kind.TheVariants.{Thread}
 use Rattle.tx_types.specs.declared.state.State.{State}
 use Rattle.tx_types.specs.declared.state.State.TheVariants.{Ready, Completed, Terminated, Suspended}
 use Rattle.tx_types.specs.declared.waits.End.TheVariants.{Aborted, Gone}
 use Rattle.region_guard.specs.Memory.{Memory}
-use Rattle.kernel_state.specs.Change.{Change, quiet}
+use Rattle.kernel_state.specs.Change.{quiet}
 use Rattle.kernel_state.specs.Kernel.{is_thread, placed, thread}
 use Rattle.kernel_state.specs.Laws.{WaiterHasWait}
 use Rattle.kernel_state.specs.Readying.{made_unready}

@@ -1,5 +1,5 @@
 -- Each row of the thread services keeps what every row keeps.
-use Rattle.std.proofs.Common.{◌==◌, true, false, refl, inl, inr, not, nat_le, nat_lt, List, [], ◌∷◌, All, lit<}
+use Rattle.std.proofs.Common.{◌==◌, false, refl, inl, inr, not, nat_le, nat_lt, [], ◌∷◌, All, lit<}
 use Rattle.std.proofs.lemmas.Bool.{not-false}
 use Rattle.tx_types.specs.Code.{thread_error, priority_error, delete_error, resume_error, suspend_error, thresh_error, suspend_lifted, wait_abort_error, not_done}
 use Rattle.tx_types.specs.declared.kind.Kind.TheVariants.{Thread}
