@@ -9,11 +9,13 @@ abbrev pub before : ℕ → Result (List ℕ) ℕ → Result (List ℕ) ℕ
 before b (Ok rest) = Ok (b ∷ rest)
 before b (Err code) = Err code
 
--- the bytes from an address on up to a zero, which is among the next n; module m must have the right to load each of them
+-- the bytes from an address on up to a zero, which is among the next n; module m must have the
+-- right to load each of them
 unfoldable pub text_at : Memory → ℕ → ℕ → ℕ → Result (List ℕ) ℕ
 text_at g m a zero = Err ptr_error
 text_at g m a (suc n) =
-    if may g m Load a 1 then (if byte g a == 0 then Ok [] else before (byte g a) (text_at g m (a + 1) n))
+    if may g m Load a 1
+    then (if byte g a == 0 then Ok [] else before (byte g a) (text_at g m (a + 1) n))
     else Err invalid_memory
 
 -- no name, or one of at most 31 bytes and a zero after it

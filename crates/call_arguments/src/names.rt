@@ -46,7 +46,8 @@ fn text_at(g: &Guard, m: ModNo, x: u32) -> Result<Name, Code>
 
 /// The byte i addresses after x, where module m may load it. No address is 2^32 or more.
 fn byte_at(g: &Guard, m: ModNo, x: u32, i: u32) -> Option<u8>
-    ensures { result ≡ (if may g.now m Access.Load (x + i) 1 then Some (byte g.now (x + i)) else None) }
+    ensures { result
+        ≡ (if may g.now m Access.Load (x + i) 1 then Some (byte g.now (x + i)) else None) }
 {
     what_may_be_used_is_in_ram();
     let _ = g.regions();

@@ -1,4 +1,5 @@
--- One instruction: what it does to a hart and to memory (RISC-V Unprivileged ISA Manual, RV32I and M).
+-- One instruction: what it does to a hart and to memory (RISC-V Unprivileged ISA Manual, RV32I and
+-- the M extension).
 use Rattle.std.specs.Prelude.{ℕ, ℤ, pos, ◌+◌, ◌*◌, ◌/◌, ◌%◌, ◌^◌, ◌+ℤ◌, ◌*ℤ◌, ◌==◌, nat_lt, nat_le, bit_and, bit_or, bit_xor, Bool, not, Option, None, Some, Result, Ok, Err, if◌then◌else◌}
 use Rattle.std.specs.Int.RustNames.{int_lt}
 use Rattle.machine_words.specs.Bits.{signed, word_of}
@@ -13,8 +14,8 @@ use Rattle.rv_core.specs.declared.bus.Cause.TheVariants.{FetchMisaligned, Illega
 use Rattle.rv_core.specs.declared.execute.Out.{Out}
 use Rattle.rv_core.specs.declared.execute.Out.TheVariants.{Done, Call, Fault}
 
--- what a step comes to: the instruction completed, with the low bytes of a value put at an address or without;
--- it is a call; or it can't be executed
+-- what a step comes to: the instruction completed, with the low bytes of a value put at an address
+-- or without; it is a call; or it can't be executed
 pub data Effect : Type 0 where
   Completes : (after : HartState) → Effect
   Stores : (a n value : ℕ) → (after : HartState) → Effect
@@ -27,15 +28,19 @@ writes h rd value = Completes (advanced (with_register h rd value))
 
 -- an instruction goes to a target, which 4 must divide
 unfoldable pub goes_to : HartState → ℕ → Effect
-goes_to h target = if target % 4 == 0 then Completes (record h { pc = target }) else Faults FetchMisaligned
+goes_to h target =
+    if target % 4 == 0 then Completes (record h { pc = target }) else Faults FetchMisaligned
 
 -- a jump writes the address of the instruction after it
 unfoldable pub jumps : HartState → ℕ → ℕ → Effect
 jumps h rd target =
-    if target % 4 == 0 then Completes (record (with_register h rd ((h.pc + 4) % 2 ^ 32)) { pc = target }) else Faults FetchMisaligned
+    if target % 4 == 0
+    then Completes (record (with_register h rd ((h.pc + 4) % 2 ^ 32)) { pc = target })
+    else Faults FetchMisaligned
 
 unfoldable pub branches : HartState → Bool → ℤ → Effect
-branches h taken imm = if taken then goes_to h (word_of (pos h.pc +ℤ imm)) else Completes (advanced h)
+branches h taken imm =
+    if taken then goes_to h (word_of (pos h.pc +ℤ imm)) else Completes (advanced h)
 
 -- the address that a register and an immediate give
 abbrev pub address : HartState → ℕ → ℤ → ℕ
@@ -110,8 +115,10 @@ effect (Fence rd rs1 imm) m h = Completes (advanced h)
 effect Ecall m h = Calls (advanced h)
 effect Ebreak m h = Faults Breakpoint
 effect (Mul rd rs1 rs2) m h = writes h rd (product_low (register h rs1) (register h rs2))
-effect (Mulh rd rs1 rs2) m h = writes h rd (high_word (int (register h rs1) *ℤ int (register h rs2)))
-effect (Mulhsu rd rs1 rs2) m h = writes h rd (high_word (int (register h rs1) *ℤ pos (register h rs2)))
+effect (Mulh rd rs1 rs2) m h =
+    writes h rd (high_word (int (register h rs1) *ℤ int (register h rs2)))
+effect (Mulhsu rd rs1 rs2) m h =
+    writes h rd (high_word (int (register h rs1) *ℤ pos (register h rs2)))
 effect (Mulhu rd rs1 rs2) m h = writes h rd (register h rs1 * register h rs2 / 2 ^ 32)
 effect (Div rd rs1 rs2) m h = writes h rd (quotient (register h rs1) (register h rs2))
 effect (Divu rd rs1 rs2) m h = writes h rd (quotient_unsigned (register h rs1) (register h rs2))

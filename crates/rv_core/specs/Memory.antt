@@ -17,12 +17,16 @@ fetch_answer m a = if m.fetches a 4 then Ok (number_from m.byte a 4) else Err Fe
 
 abbrev pub load_answer : Memory → (a n : ℕ) → Result ℕ Cause
 load_answer m a n =
-    if a % n == 0 then (if m.loads a n then Ok (number_from m.byte a n) else Err LoadOutside) else Err LoadMisaligned
+    if a % n == 0
+    then (if m.loads a n then Ok (number_from m.byte a n) else Err LoadOutside)
+    else Err LoadMisaligned
 
 abbrev pub store_answer : Memory → (a n : ℕ) → Result (Unit {0}) Cause
-store_answer m a n = if a % n == 0 then (if m.stores a n then Ok tt else Err StoreOutside) else Err StoreMisaligned
+store_answer m a n =
+    if a % n == 0 then (if m.stores a n then Ok tt else Err StoreOutside) else Err StoreMisaligned
 
--- the low n bytes of a value were put at an address, no other byte changed, and what may be used didn't
+-- the low n bytes of a value were put at an address, no other byte changed, and what may be used
+-- didn't
 pub record IsStored (old new : Memory) (a n value : ℕ) : Type 0 where
   pub bytes : (x : ℕ) → new.byte x ≡ after_store old.byte a n value x
   pub fetches : (x k : ℕ) → new.fetches x k ≡ old.fetches x k

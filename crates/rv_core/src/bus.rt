@@ -54,6 +54,7 @@ pub trait Bus {
     fn store(&mut self, a: u32, n: u32, value: u32) -> Result<(), Cause>
         requires { IsWidth n }
         ensures answer { result ≡ store_answer (memory self.old) a n }
-        ensures after { self.new ≡ (if is_ok result then after_store self.old a n value else self.old) }
+        ensures after { self.new
+            ≡ (if is_ok result then after_store self.old a n value else self.old) }
         ensures bytes { OnOk result (IsStored (memory self.old) (memory self.new) a n value) };
 }

@@ -30,9 +30,11 @@ pub fn step<B: Bus>(hart: &mut Hart, bus: &mut B) -> Out
     ensures out { result ≡ out_of (executed (B.memory bus.old) hart.old) }
     ensures hart { hart.new ≡ hart_after (executed (B.memory bus.old) hart.old) hart.old }
     ensures bus { bus.new ≡ bus_after B.after_store (executed (B.memory bus.old) hart.old) bus.old }
-    ensures bytes { Stored (executed (B.memory bus.old) hart.old) (B.memory bus.old) (B.memory bus.new) }
+    ensures bytes { Stored (executed (B.memory bus.old) hart.old)
+        (B.memory bus.old) (B.memory bus.new) }
     ensures call { result ≡ Out.Call → hart.new ≡ advanced hart.old }
-    ensures fault { (cause : Cause) → result ≡ Out.Fault cause → (hart.new ≡ hart.old) × (bus.new ≡ bus.old) }
+    ensures fault { (cause : Cause) → result ≡ Out.Fault cause
+        → (hart.new ≡ hart.old) × (bus.new ≡ bus.old) }
 {
     let word = match bus.fetch(hart.pc) {
         Ok(word) => word,
@@ -50,7 +52,8 @@ fn execute<B: Bus>(i: Instr, hart: &mut Hart, bus: &mut B) -> Out
     ensures out { result ≡ out_of (effect i (B.memory bus.old) hart.old) }
     ensures hart { hart.new ≡ hart_after (effect i (B.memory bus.old) hart.old) hart.old }
     ensures bus { bus.new ≡ bus_after B.after_store (effect i (B.memory bus.old) hart.old) bus.old }
-    ensures bytes { Stored (effect i (B.memory bus.old) hart.old) (B.memory bus.old) (B.memory bus.new) }
+    ensures bytes { Stored (effect i (B.memory bus.old) hart.old)
+        (B.memory bus.old) (B.memory bus.new) }
 {
     let operation = asked(i, hart);
     perform(operation, hart, bus)
@@ -65,7 +68,8 @@ fn perform<B: Bus>(operation: Operation, hart: &mut Hart, bus: &mut B) -> Out
     ensures hart { hart.new ≡ hart_after (meaning operation (B.memory bus.old) hart.old) hart.old }
     ensures bus { bus.new
         ≡ bus_after B.after_store (meaning operation (B.memory bus.old) hart.old) bus.old }
-    ensures bytes { Stored (meaning operation (B.memory bus.old) hart.old) (B.memory bus.old) (B.memory bus.new) }
+    ensures bytes { Stored (meaning operation (B.memory bus.old) hart.old)
+        (B.memory bus.old) (B.memory bus.new) }
 {
     match operation {
         Operation::Write { rd, value } => write(hart, rd, value),
@@ -155,7 +159,8 @@ fn load<B: Bus>(hart: &mut Hart, bus: &B, rd: u8, a: u32, n: u32) -> Out
     requires register { rd < 32 }
     requires width { IsWidth n }
     ensures out { result ≡ out_of (loads_unsigned (B.memory bus.now) hart.old rd a n) }
-    ensures hart { hart.new ≡ hart_after (loads_unsigned (B.memory bus.now) hart.old rd a n) hart.old }
+    ensures hart { hart.new
+        ≡ hart_after (loads_unsigned (B.memory bus.now) hart.old rd a n) hart.old }
 {
     match bus.load(a, n) {
         Ok(value) => write(hart, rd, value),
@@ -169,7 +174,8 @@ fn load_signed<B: Bus>(hart: &mut Hart, bus: &B, rd: u8, a: u32, n: u32) -> Out
     requires register { rd < 32 }
     requires width { IsWidth n }
     ensures out { result ≡ out_of (loads_signed (B.memory bus.now) hart.old rd a n) }
-    ensures hart { hart.new ≡ hart_after (loads_signed (B.memory bus.now) hart.old rd a n) hart.old }
+    ensures hart { hart.new
+        ≡ hart_after (loads_signed (B.memory bus.now) hart.old rd a n) hart.old }
 {
     match bus.load(a, n) {
         Ok(value) => write(hart, rd, sign_extended(value, n)),
@@ -213,8 +219,10 @@ fn store<B: Bus>(hart: &mut Hart, bus: &mut B, a: u32, n: u32, value: u32) -> Ou
     requires { IsWidth n }
     ensures out { result ≡ out_of (stores (B.memory bus.old) hart.old a n value) }
     ensures hart { hart.new ≡ hart_after (stores (B.memory bus.old) hart.old a n value) hart.old }
-    ensures bus { bus.new ≡ bus_after B.after_store (stores (B.memory bus.old) hart.old a n value) bus.old }
-    ensures bytes { Stored (stores (B.memory bus.old) hart.old a n value) (B.memory bus.old) (B.memory bus.new) }
+    ensures bus { bus.new
+        ≡ bus_after B.after_store (stores (B.memory bus.old) hart.old a n value) bus.old }
+    ensures bytes { Stored (stores (B.memory bus.old) hart.old a n value)
+        (B.memory bus.old) (B.memory bus.new) }
 {
     match bus.store(a, n, value) {
         Ok(()) => next(hart),

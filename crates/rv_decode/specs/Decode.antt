@@ -36,20 +36,40 @@ abbrev pub j_type : ℕ → (ℕ → ℤ → Instr) → Row
 j_type o make = record { opcode = o; codes = Any; instruction = λ w. make (rd w) (j_immediate w) }
 
 abbrev pub i_type : ℕ → ℕ → (ℕ → ℕ → ℤ → Instr) → Row
-i_type o f3 make = record { opcode = o; codes = Funct3 f3; instruction = λ w. make (rd w) (rs1 w) (i_immediate w) }
+i_type o f3 make = record {
+  opcode = o;
+  codes = Funct3 f3;
+  instruction = λ w. make (rd w) (rs1 w) (i_immediate w);
+}
 
 abbrev pub s_type : ℕ → ℕ → (ℕ → ℕ → ℤ → Instr) → Row
-s_type o f3 make = record { opcode = o; codes = Funct3 f3; instruction = λ w. make (rs1 w) (rs2 w) (s_immediate w) }
+s_type o f3 make = record {
+  opcode = o;
+  codes = Funct3 f3;
+  instruction = λ w. make (rs1 w) (rs2 w) (s_immediate w);
+}
 
 abbrev pub b_type : ℕ → ℕ → (ℕ → ℕ → ℤ → Instr) → Row
-b_type o f3 make = record { opcode = o; codes = Funct3 f3; instruction = λ w. make (rs1 w) (rs2 w) (b_immediate w) }
+b_type o f3 make = record {
+  opcode = o;
+  codes = Funct3 f3;
+  instruction = λ w. make (rs1 w) (rs2 w) (b_immediate w);
+}
 
 abbrev pub r_type : ℕ → ℕ → ℕ → (ℕ → ℕ → ℕ → Instr) → Row
-r_type o f3 f7 make = record { opcode = o; codes = Funct7 f3 f7; instruction = λ w. make (rd w) (rs1 w) (rs2 w) }
+r_type o f3 f7 make = record {
+  opcode = o;
+  codes = Funct7 f3 f7;
+  instruction = λ w. make (rd w) (rs1 w) (rs2 w);
+}
 
 -- a shift by a constant, whose amount stands in the place of rs2
 abbrev pub shift_type : ℕ → ℕ → ℕ → (ℕ → ℕ → ℕ → Instr) → Row
-shift_type o f3 f7 make = record { opcode = o; codes = Funct7 f3 f7; instruction = λ w. make (rd w) (rs1 w) (amount w) }
+shift_type o f3 f7 make = record {
+  opcode = o;
+  codes = Funct7 f3 f7;
+  instruction = λ w. make (rd w) (rs1 w) (amount w);
+}
 
 -- a row of one word
 abbrev pub exactly : ℕ → ℕ → Instr → Row

@@ -34,7 +34,8 @@ u_word o d z = o + 2 ^ 7 * d + field 32 z
 abbrev pub j_word : ℕ → ℕ → ℤ → ℕ
 j_word o d z =
     let n = field 21 z in
-    o + 2 ^ 7 * d + 2 ^ 12 * bits n 12 8 + 2 ^ 20 * bits n 11 1 + 2 ^ 21 * bits n 1 10 + 2 ^ 31 * bits n 20 1
+    o + 2 ^ 7 * d + 2 ^ 12 * bits n 12 8 + 2 ^ 20 * bits n 11 1 + 2 ^ 21 * bits n 1 10
+    + 2 ^ 31 * bits n 20 1
 
 -- each row's codes with the instruction's fields
 abbrev pub encoded : Instr → ℕ

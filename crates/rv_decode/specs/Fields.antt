@@ -45,4 +45,5 @@ u_immediate w = signed 32 (bits w 12 20 * 2 ^ 12)
 -- bits 31, 19 to 12, 20, 30 to 21, then a zero, sign-extended
 abbrev pub j_immediate : ℕ → ℤ
 j_immediate w =
-    signed 21 (bits w 31 1 * 2 ^ 20 + bits w 12 8 * 2 ^ 12 + bits w 20 1 * 2 ^ 11 + bits w 21 10 * 2)
+    signed 21 (bits w 31 1 * 2 ^ 20 + bits w 12 8 * 2 ^ 12 + bits w 20 1 * 2 ^ 11
+    + bits w 21 10 * 2)

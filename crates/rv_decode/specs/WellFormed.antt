@@ -1,5 +1,5 @@
--- Which instructions a word can hold: registers of five bits, and the amounts and immediates that each
--- format gives.
+-- Which instructions a word can hold: registers of five bits, and the amounts and immediates that
+-- each format gives.
 use Rattle.std.specs.Prelude.{ℕ, ℤ, pos, neg_ℤ, ◌≡◌, ◌-◌, ◌^◌, ◌<◌, ◌≤ℤ◌, ◌<ℤ◌}
 use Rattle.std.specs.Int.{int_rem_euclid}
 use Rattle.rv_decode.specs.declared.Instr.{Instr}
