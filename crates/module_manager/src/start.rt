@@ -148,7 +148,13 @@ fn callback_spec(m: ModNo, row: &Module) -> ThreadSpec
 /// A thread whose threshold is its priority, and that has no time slice.
 fn spec(m: ModNo, hart: Hart, priority: u32) -> ThreadSpec
     requires { priority < priority_limit }
-    ensures { result ≡ record { «module» = m; hart = hart; priority = priority; threshold = priority; slice = 0 } }
+    ensures { result ≡ record {
+      «module» = m;
+      hart = hart;
+      priority = priority;
+      threshold = priority;
+      slice = 0;
+    } }
 {
     ThreadSpec {
         module: m,
