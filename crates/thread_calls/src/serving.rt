@@ -30,7 +30,8 @@ pub fn serve(number: u32, k: &mut Kernel, g: &mut Guard, by: ThreadNo, a: &Args)
     requires room { HasRoom k.old }
     ensures kernel { k.new ≡ (called (row_of number rows) k.old g.old by a.now).change.kernel }
     ensures memory { g.new ≡ (called (row_of number rows) k.old g.old by a.now).change.memory }
-    ensures answer { result ≡ option_map (λ r. (r.does k.old g.old by a.now).answer) (row_of number rows) }
+    ensures answer { result
+        ≡ option_map (λ r. (r.does k.old g.old by a.now).answer) (row_of number rows) }
     ensures serves { Serves k.new g.new }
 {
     match number {
