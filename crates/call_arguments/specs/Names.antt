@@ -1,6 +1,7 @@
 -- Names that a module gives to a service.
 use Rattle.std.specs.Prelude.{ℕ, zero, suc, ◌+◌, ◌==◌, List, [], ◌∷◌, Result, Ok, Err, if◌then◌else◌}
 use Rattle.tx_types.specs.Code.{ptr_error, invalid_memory}
+use Rattle.tx_types.specs.Limits.{name_limit}
 use Rattle.region_guard.specs.Memory.{Memory, byte, may}
 use Rattle.region_guard.specs.declared.region.Access.TheVariants.{Load}
 
@@ -18,6 +19,6 @@ text_at g m a (suc n) =
     then (if byte g a == 0 then Ok [] else before (byte g a) (text_at g m (a + 1) n))
     else Err invalid_memory
 
--- no name, or one of at most 31 bytes and a zero after it
+-- no name, or one within its limit and a zero after it
 abbrev pub name_at : Memory → ℕ → ℕ → Result (List ℕ) ℕ
-name_at g m x = if x == 0 then Ok [] else text_at g m x 32
+name_at g m x = if x == 0 then Ok [] else text_at g m x (name_limit + 1)

@@ -3,6 +3,7 @@
 //! A name is read byte by byte up to its zero, and a byte only once the module may load it: what lies
 //! after the zero doesn't matter.
 ghost use Rattle.std.specs.Prelude.{◌≡◌, ◌≢◌, ◌+◌, ◌<◌, ◌≤◌, All, IfOk, Some, None, length, if◌then◌else◌};
+ghost use Rattle.tx_types.specs.Limits.{name_limit};
 ghost use Rattle.call_arguments.specs.Names.{name_at, text_at};
 ghost use Rattle.region_guard.specs.Memory.{byte, may};
 
@@ -13,7 +14,7 @@ use tx_types::{Code, ModNo, Name};
 /// where module m may not load one of these bytes, PTR_ERROR where 32 bytes have no zero.
 pub fn name_at(g: &Guard, m: ModNo, x: u32) -> Result<Name, Code>
     ensures value { result ≡ name_at g.now m x }
-    ensures short { IfOk result (λ name. length name ≤ 31) }
+    ensures short { IfOk result (λ name. length name ≤ name_limit) }
     ensures whole { IfOk result (λ name. All (λ b. b ≢ 0) name) }
 {
     if x == 0 {
@@ -25,8 +26,8 @@ pub fn name_at(g: &Guard, m: ModNo, x: u32) -> Result<Name, Code>
 
 /// The text from x on up to a zero.
 fn text_at(g: &Guard, m: ModNo, x: u32) -> Result<Name, Code>
-    ensures value { result ≡ text_at g.now m x 32 }
-    ensures short { IfOk result (λ name. length name ≤ 31) }
+    ensures value { result ≡ text_at g.now m x (name_limit + 1) }
+    ensures short { IfOk result (λ name. length name ≤ name_limit) }
     ensures whole { IfOk result (λ name. All (λ b. b ≢ 0) name) }
 {
     let mut name = Name::empty();

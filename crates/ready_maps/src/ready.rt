@@ -3,7 +3,7 @@
 //! Every move is made of steps on the state's lists, and the type keeps the facts of `IsKept` over
 //! all of them.
 ghost use Rattle.std.specs.Prelude.{◌≡◌, ◌%◌, ◌<◌, ◌≤◌, ◌↔◌, [], replicate, true, false, None, IfOk, IsSome};
-ghost use Rattle.tx_types.specs.Limits.{priority_limit};
+ghost use Rattle.tx_types.specs.Limits.{priority_group, priority_limit};
 ghost use Rattle.ready_maps.specs.Sched.{Sched, new_sched, pr, th, is_ready, is_held, first_at, after};
 ghost use Rattle.ready_maps.specs.Moves.{readied, unreadied, yielded, threshold_set, priority_set, restored};
 ghost use Rattle.ready_maps.specs.Kept.{IsKept};
@@ -35,9 +35,9 @@ impl Model for Ready {
 impl Ready {
     /// No thread is ready, and every priority and threshold is 0.
     pub fn new(alloc: Global, priorities: u16) -> Result<Ready, NoMemory>
-        requires at_least { 32 ≤ priorities }
+        requires at_least { priority_group ≤ priorities }
         requires at_most { priorities ≤ priority_limit }
-        requires words { priorities % 32 ≡ 0 }
+        requires groups { priorities % priority_group ≡ 0 }
         ensures blank { IfOk result (λ s. s ≡ new_sched priorities) }
         ensures kept { IfOk result IsKept }
     {

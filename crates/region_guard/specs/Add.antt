@@ -1,5 +1,6 @@
 -- A region that is added, and why it may be refused.
 use Rattle.std.specs.Prelude.{ℕ, ◌==◌, [], ◌∷◌, ◌++◌, length, Option, Some, None, Result, Ok, Err, position, if◌then◌else◌}
+use Rattle.tx_types.specs.Limits.{region_limit}
 use Rattle.region_guard.specs.Memory.{Memory}
 use Rattle.region_guard.specs.Region.{meets}
 use Rattle.region_guard.specs.declared.guard.AddErr.{AddErr}
@@ -14,7 +15,7 @@ unless_met (Some i) = Err (Overlap i)
 -- no region goes into full memory, nor one that meets another: the first that it meets is named
 abbrev pub add_answer : Memory → Region → Result (Unit {0}) AddErr
 add_answer g r =
-    if length g.regions == 64 then Err Full else unless_met (position (meets r) g.regions)
+    if length g.regions == region_limit then Err Full else unless_met (position (meets r) g.regions)
 
 -- an added region goes last; a refusal changes nothing
 abbrev pub after_add : Memory → Region → Result (Unit {0}) AddErr → Memory

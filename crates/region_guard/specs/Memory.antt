@@ -2,6 +2,7 @@
 use Rattle.std.specs.Prelude.{◌≡◌, ℕ, ◌+◌, ◌-◌, ◌<◌, ◌≤◌, ◌^◌, ◌==◌, ◌||◌, ◌&&◌, Bool, false, not, nat_le, List, length, slice_index, slice_range, All, AllPairs, if◌then◌else◌}
 use Rattle.std.specs.List.{list_any}
 use Rattle.machine_words.specs.Number.{number_from, low_bytes}
+use Rattle.tx_types.specs.Limits.{region_limit}
 use Rattle.flat_ram.specs.Ram.{over}
 use Rattle.region_guard.specs.Region.{lets, meets}
 use Rattle.region_guard.specs.declared.region.Access.{Access}
@@ -56,7 +57,7 @@ pub record IsInRam (bytes : List ℕ) (r : Region) : Type 0 where
 
 -- what holds of all guarded memory
 pub record IsSound (g : Memory) : Type 0 where
-  pub at_most : length g.regions ≤ 64
+  pub at_most : length g.regions ≤ region_limit
   pub in_ram : All (IsInRam g.bytes) g.regions
   pub apart : AllPairs (λ earlier later. meets later earlier ≡ false) g.regions
   pub addressable : ram_base + length g.bytes ≤ 2 ^ 32

@@ -4,6 +4,7 @@
 //! time. Regions are only added, and each one goes into the list of every module that it is for.
 ghost use Rattle.std.specs.Prelude.{◌≡◌, ℕ, ◌+◌, ◌<◌, ◌^◌, ◌≤◌, [], ◌∷◌, ◌++◌, length, All, IfOk, replicate};
 ghost use Rattle.std.specs.List.{filter, list_any, slice_index_or};
+ghost use Rattle.tx_types.specs.Limits.{module_limit, region_limit};
 ghost use Rattle.region_guard.specs.Region.{allows, is_for, lets};
 ghost use Rattle.region_guard.specs.Regions.{added};
 
@@ -24,13 +25,14 @@ struct RegionList {
 
 impl Model for RegionList {
     ghost use Rattle.std.specs.Prelude.{◌≤◌, List, vec_capacity};
+    ghost use Rattle.tx_types.specs.Limits.{region_limit};
     ghost use Rattle.region_guard.specs.declared.region.Region.{Region};
 
     ghost Value = { List Region };
 
     ghost view = { λ l. l.regions.items };
 
-    ghost invariant = { λ l. 64 ≤ vec_capacity l.regions };
+    ghost invariant = { λ l. region_limit ≤ vec_capacity l.regions };
 }
 
 impl RegionList {
@@ -44,7 +46,7 @@ impl RegionList {
 
     /// Puts a region last.
     fn push(&mut self, r: Region)
-        requires { length self.old < 64 }
+        requires { length self.old < region_limit }
         ensures { self.new ≡ self.old ++ r ∷ [] }
     {
         self.regions.push_reserved(r);
@@ -104,7 +106,7 @@ impl Regions {
 
     /// Puts a region last.
     pub fn push(&mut self, r: Region)
-        requires { length self.old < 64 }
+        requires { length self.old < region_limit }
         ensures { self.new ≡ self.old ++ r ∷ [] }
     {
         add_to_own(&mut self.own, r);
@@ -124,7 +126,7 @@ impl Regions {
 
 /// A list for each module, with no region yet.
 fn empty_lists(alloc: Global) -> Result<Vec<RegionList>, AllocError>
-    ensures { IfOk result (λ lists. lists.items ≡ replicate 16 []) }
+    ensures { IfOk result (λ lists. lists.items ≡ replicate module_limit []) }
 {
     let mut lists = Vec::with_capacity(alloc, usize::from(MODULES))?;
     for _ in 0..MODULES {
@@ -135,10 +137,10 @@ fn empty_lists(alloc: Global) -> Result<Vec<RegionList>, AllocError>
 
 /// Puts a region last in the list of each module that it is for.
 fn add_to_own(own: &mut [RegionList], r: Region)
-    requires sixteen { length own.old ≡ 16 }
-    requires room { All (λ list. length list < 64) own.old }
-    ensures sixteen { length own.new ≡ 16 }
-    ensures each { (m : ℕ) → m < 16
+    requires modules { length own.old ≡ module_limit }
+    requires room { All (λ list. length list < region_limit) own.old }
+    ensures modules { length own.new ≡ module_limit }
+    ensures each { (m : ℕ) → m < module_limit
         → slice_index_or own.new m [] ≡ added m r (slice_index_or own.old m []) }
 {
     for m in 0..MODULES {

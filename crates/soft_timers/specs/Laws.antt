@@ -1,6 +1,7 @@
 -- What holds over all calls of a wheel.
 use Rattle.std.specs.Prelude.{ℕ, ◌≡◌, ◌≢◌, ◌^◌, ◌<◌, ◌==◌, ◌&&◌, ◌||◌, nat_lt, Bool, true, false, List, [], ◌∷◌, All, AllPairs, IsSome, None, ⊤}
 use Rattle.std.specs.List.{list_any}
+use Rattle.tx_types.specs.Limits.{timer_limit}
 use Rattle.soft_timers.specs.Timers.{TimerTable, IsWheel, IsRunning, armed, armed_for, disarmed, ticked, due_now, still}
 use Rattle.soft_timers.specs.declared.due.Armed.{Armed}
 
@@ -15,7 +16,7 @@ called w (Disarm id) = disarmed w id
 
 -- when a call may be made
 abbrev pub MayCall : TimerTable → Call → Type 0
-MayCall w (Arm id n) = (armed w id ≡ None) × (id < 512) × (0 < n) × (n < 2 ^ 32)
+MayCall w (Arm id n) = (armed w id ≡ None) × (id < timer_limit) × (0 < n) × (n < 2 ^ 32)
 MayCall w (Disarm id) = ⊤
 
 -- a list of calls, each of which may be made in its turn

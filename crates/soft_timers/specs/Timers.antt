@@ -1,6 +1,7 @@
 -- Which timeouts and timers are armed, by ticks since the start, and which are due.
 use Rattle.std.specs.Prelude.{ℕ, ◌≢◌, ◌+◌, ◌-◌, ◌^◌, ◌<◌, ◌≤◌, ◌==◌, Bool, false, not, List, [], ◌∷◌, ◌++◌, All, AllPairs, filter, find, Option}
 use Rattle.std.specs.Option.{option_map, option_map_or}
+use Rattle.tx_types.specs.Limits.{timer_limit}
 use Rattle.soft_timers.specs.declared.due.Armed.{Armed}
 
 pub record TimerTable : Type 0 where
@@ -55,7 +56,7 @@ still w d = option_map_or (λ n. n == d.arming) (arming w d.id) false
 pub record IsWheel (w : TimerTable) : Type 0 where
   pub each_once : AllPairs (λ d e. d.id ≢ e.id) w.entries
   pub in_order : AllPairs (λ d e. d.arming < e.arming) w.entries
-  pub numbers : All (λ e. e.id < 512) w.entries
+  pub numbers : All (λ e. e.id < timer_limit) w.entries
   pub armed_before : All (λ e. e.arming < w.armings) w.entries
   pub not_past : All (λ e. w.ticks ≤ e.expiry) w.entries
   pub not_far : All (λ e. e.expiry < w.ticks + 2 ^ 32) w.entries

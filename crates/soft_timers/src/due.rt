@@ -2,6 +2,7 @@
 //!
 //! A list has room for all timeouts and timers from the start, so a tick can't run out of memory.
 ghost use Rattle.std.specs.Prelude.{◌≡◌, ◌<◌, ◌≤◌, ◌==◌, [], length, filter, HoldsAt, IfOk, vec_capacity};
+ghost use Rattle.tx_types.specs.Limits.{timer_limit};
 ghost use Rattle.soft_timers.specs.Timers.{due_among};
 
 use crate::TIMERS;
@@ -26,13 +27,14 @@ pub struct Due {
 
 impl Model for Due {
     ghost use Rattle.std.specs.Prelude.{◌≡◌, List, vec_capacity};
+    ghost use Rattle.tx_types.specs.Limits.{timer_limit};
     ghost use Rattle.soft_timers.specs.declared.due.Armed.{Armed};
 
     ghost Value = { List Armed };
 
     ghost view = { λ d. d.entries.items };
 
-    ghost invariant = { λ d. vec_capacity d.entries ≡ 512 };
+    ghost invariant = { λ d. vec_capacity d.entries ≡ timer_limit };
 }
 
 impl Due {
@@ -76,7 +78,7 @@ impl Due {
 
     /// Lists those that are due at a tick, and no others.
     pub(crate) fn list(&mut self, from: &[Armed], now: u64)
-        requires { length from.now ≤ 512 }
+        requires { length from.now ≤ timer_limit }
         ensures { self.new ≡ due_among from.now now }
     {
         self.entries.clear();

@@ -10,12 +10,13 @@ pub struct TimerId(u16);
 
 impl Model for TimerId {
     ghost use Rattle.std.specs.Prelude.{ℕ, ◌<◌};
+    ghost use Rattle.tx_types.specs.Limits.{timer_limit};
 
     ghost Value = { ℕ };
 
     ghost view = { λ i. i.0 };
 
-    ghost invariant = { λ i. i.0 < 512 };
+    ghost invariant = { λ i. i.0 < timer_limit };
 
     ghost inverse = { λ n. record { 0 = n } };
 }
@@ -31,6 +32,7 @@ pub enum Whose {
 
 impl TimerId {
     ghost use Rattle.std.specs.Prelude.{◌≡◌, ◌<◌};
+    ghost use Rattle.tx_types.specs.Limits.{timer_limit};
     ghost use Rattle.soft_timers.specs.Id.{id_of};
 
     /// The number of a thread's timeout or of a timer object.
@@ -58,7 +60,7 @@ impl TimerId {
     #[inline]
     pub fn number(self) -> u16
         ensures same { result ≡ self }
-        ensures below_512 { result < 512 }
+        ensures below_512 { result < timer_limit }
     {
         self.0
     }

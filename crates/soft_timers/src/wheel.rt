@@ -23,6 +23,7 @@ pub struct Wheel {
 
 impl Model for Wheel {
     ghost use Rattle.std.specs.Prelude.{◌≤◌, vec_capacity};
+    ghost use Rattle.tx_types.specs.Limits.{timer_limit};
     ghost use Rattle.soft_timers.specs.Timers.{TimerTable, IsWheel};
 
     ghost Value = { TimerTable };
@@ -35,7 +36,7 @@ impl Model for Wheel {
 
     ghost invariant = { λ w. IsWheel
         (record { ticks = w.ticks; armings = w.armings; entries = w.entries.items })
-        × (512 ≤ vec_capacity w.entries) };
+        × (timer_limit ≤ vec_capacity w.entries) };
 }
 
 impl Wheel {

@@ -2,8 +2,10 @@
 //!
 //! A list has room for every thread from the start, so it can't run out of memory afterwards.
 ghost use Rattle.std.specs.Prelude.{◌≡◌, ◌<◌, ◌==◌, ◌++◌, ◌∷◌, [], true, length, position, IfOk, slice_get, vec_len, vec_capacity};
+ghost use Rattle.tx_types.specs.Limits.{slot_limit};
 ghost use Rattle.suspend_lists.specs.ThreadList.{has, without, next_after};
 
+use crate::THREADS;
 use std::alloc::Global;
 use std::marker::Model;
 use tx_types::{NoMemory, ThreadNo};
@@ -16,12 +18,13 @@ pub(crate) struct ThreadList {
 
 impl Model for ThreadList {
     ghost use Rattle.std.specs.Prelude.{ℕ, List, ◌≤◌, vec_capacity};
+    ghost use Rattle.tx_types.specs.Limits.{slot_limit};
 
     ghost Value = { List ℕ };
 
     ghost view = { λ l. l.threads.items };
 
-    ghost invariant = { λ l. 256 ≤ vec_capacity l.threads };
+    ghost invariant = { λ l. slot_limit ≤ vec_capacity l.threads };
 }
 
 impl ThreadList {
@@ -29,7 +32,7 @@ impl ThreadList {
     pub(crate) fn new(alloc: Global) -> Result<ThreadList, NoMemory>
         ensures { IfOk result (λ l. l ≡ []) }
     {
-        let threads = Vec::with_capacity(alloc, 256)?;
+        let threads = Vec::with_capacity(alloc, THREADS)?;
         Ok(ThreadList { threads })
     }
 
@@ -49,7 +52,7 @@ impl ThreadList {
 
     /// Thread t goes last.
     pub(crate) fn push(&mut self, t: ThreadNo)
-        requires room { length self.old < 256 }
+        requires room { length self.old < slot_limit }
         ensures { self.new ≡ self.old ++ t ∷ [] }
     {
         self.threads.push_reserved(t);

@@ -1,11 +1,12 @@
 -- References to kernel objects: a slot and its generation in one word.
 use Rattle.std.specs.Prelude.{ℕ, ◌+◌, ◌*◌, ◌/◌, ◌%◌}
+use Rattle.tx_types.specs.Limits.{slot_limit}
 
 abbrev pub reference : ℕ → ℕ → ℕ
-reference slot generation = generation * 256 + slot
+reference slot generation = generation * slot_limit + slot
 
 abbrev pub slot_of : ℕ → ℕ
-slot_of r = r % 256
+slot_of r = r % slot_limit
 
 abbrev pub generation_of : ℕ → ℕ
-generation_of r = r / 256
+generation_of r = r / slot_limit
