@@ -20,6 +20,10 @@ least_stack = 64
 abbrev pub most_stack : ℕ
 most_stack = 65536
 
+-- bytes of data, at most
+abbrev pub most_data : ℕ
+most_data = 1048576
+
 -- a rule: whether it holds, and the refusal where it doesn't
 pub record Rule : Type 0 where
   pub holds : Bool
@@ -64,7 +68,7 @@ identity_rules p =
 unfoldable pub size_rules : ℕ → Preamble → List Rule
 size_rules len p =
     rule ((p.code_size % 4 == 0) && (p.code_size == len)) (BadCode p.code_size)
-    ∷ rule (nat_le p.data_size 1048576) (BadData p.data_size)
+    ∷ rule (nat_le p.data_size most_data) (BadData p.data_size)
     ∷ []
 
 -- shell and start are entries; stop and callback are, or are none
@@ -118,7 +122,7 @@ pub record IsAccepted (bytes : List ℕ) (p : Preamble) : Type 0 where
   pub words : p ≡ words_of bytes
   pub code_size : p.code_size ≡ length bytes
   pub code_words : p.code_size % 4 ≡ 0
-  pub data_size : p.data_size ≤ 1048576
+  pub data_size : p.data_size ≤ most_data
   pub shell : IsEntry p p.shell
   pub start : IsEntry p p.start
   pub callback : IsTrue (has_callback p) → IsEntry p p.callback
