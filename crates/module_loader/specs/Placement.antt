@@ -7,6 +7,10 @@ use Rattle.module_loader.specs.declared.placement.Placed.{Placed}
 use Rattle.module_loader.specs.declared.placement.Range.{Range}
 use Rattle.module_loader.specs.declared.want.Want.{Want}
 
+-- modules that are placed at once, at most
+abbrev pub most_wants : ℕ
+most_wants = 256
+
 -- the first place in a range where code or data may begin
 abbrev pub place_in : Range → ℕ
 place_in r = rounded_up 32 r.base

@@ -1,6 +1,6 @@
 -- What a module wants of memory.
 use Rattle.std.specs.Prelude.{◌≡◌, ℕ, ◌+◌, ◌-◌, ◌*◌, ◌/◌, ◌≤◌, true, if◌then◌else◌}
-use Rattle.module_preamble.specs.Preamble.{most_stack}
+use Rattle.module_preamble.specs.Preamble.{most_data, most_stack}
 use Rattle.module_preamble.specs.Words.{has_callback}
 use Rattle.module_preamble.specs.declared.words.Preamble.{Preamble}
 use Rattle.module_loader.specs.declared.want.Want.{Want}
@@ -23,6 +23,6 @@ want_of p = record { code = p.code_size; data_bytes = data_and_stack p + callbac
 
 -- the sizes have the bounds that an accepted image keeps
 pub record HasSizes (p : Preamble) : Type 0 where
-  pub data_size : p.data_size ≤ 1048576
+  pub data_size : p.data_size ≤ most_data
   pub start_stack : p.start_stack ≤ most_stack
   pub callback_stack : has_callback p ≡ true → p.callback_stack ≤ most_stack

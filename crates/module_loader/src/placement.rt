@@ -3,7 +3,7 @@
 //! Code and data begin at multiples of 32. What a module doesn't take of a free range stays free, as
 //! small as it may be.
 ghost use Rattle.std.specs.Prelude.{◌≡◌, ◌+◌, ◌^◌, ◌<◌, ◌≤◌, ◌++◌, length, take, drop, vec_len, position, Ok, IfOk, IfErr, OnOk};
-ghost use Rattle.module_loader.specs.Placement.{place_in, holds, piece, taken, placed_one, placement, Refuses};
+ghost use Rattle.module_loader.specs.Placement.{most_wants, place_in, holds, piece, taken, placed_one, placement, Refuses};
 ghost use Rattle.module_loader.specs.Taking.{IsAddressable, IsTaken, IsPlacedOne};
 
 use crate::want::{Want, rounded_up};
@@ -123,7 +123,7 @@ fn take_both(free: &mut Vec<Range>, want: &Want) -> Result<Option<Placed>, Alloc
 /// the range's base rounded up to 32; the bytes before and after it stay free.
 pub fn place(alloc: Global, free: &[Range], wants: &[Want]) -> Result<Vec<Placed>, PlaceErr>
     requires addressable { IsAddressable free.now }
-    requires count { length wants.now ≤ 256 }
+    requires count { length wants.now ≤ most_wants }
     ensures ok { IfOk result (λ places. placement free.now wants.now ≡ Ok places.items) }
     ensures refusal { IfErr result (λ e. Refuses (placement free.now wants.now) e) }
 {

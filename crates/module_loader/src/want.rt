@@ -2,6 +2,7 @@
 //!
 //! The data region holds the data, the start stack and, where there is a callback thread, its stack.
 ghost use Rattle.std.specs.Prelude.{◌≡◌, ◌+◌, ◌<◌, ◌≤◌, ◌^◌};
+ghost use Rattle.module_preamble.specs.Preamble.{most_data};
 ghost use Rattle.module_loader.specs.Want.{rounded_up, want_of, callback_bytes, HasSizes};
 
 use module_preamble::Preamble;
@@ -28,9 +29,9 @@ pub fn rounded_up(n: u64, step: u64) -> u64
 
 /// How many bytes a part of a data region takes.
 pub(crate) fn part(n: u32) -> u32
-    requires { n ≤ 1048576 }
+    requires { n ≤ most_data }
     ensures value { result ≡ rounded_up 16 n }
-    ensures most { result ≤ 1048576 }
+    ensures most { result ≤ most_data }
 {
     rounded_up(u64::from(n), PART) as u32
 }
@@ -39,7 +40,7 @@ pub(crate) fn part(n: u32) -> u32
 fn callback_bytes(p: &Preamble) -> u32
     requires { HasSizes p.now }
     ensures value { result ≡ callback_bytes p.now }
-    ensures most { result ≤ 1048576 }
+    ensures most { result ≤ most_data }
 {
     if p.has_callback() {
         part(p.callback_stack)
