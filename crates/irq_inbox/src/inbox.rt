@@ -2,6 +2,7 @@
 //!
 //! A word is never lost: it is in the queue, or was taken, or came back as `Full`.
 ghost use Rattle.std.specs.Prelude.{◌≡◌, ℕ, ◌^◌, ◌<◌, ◌≤◌, List, [], ◌∷◌, ◌++◌, length, map, slice_index_or, IfOk, IfErr, IfSome, IfNone, OnOk};
+ghost use Rattle.tx_types.specs.Limits.{device_limit, inbox_limit};
 ghost use Rattle.irq_inbox.specs.Rule.{words, HoldsRest, AreSent};
 ghost use Rattle.irq_inbox.specs.Seen.{AreAllOf, HaveSentNothing};
 
@@ -35,6 +36,7 @@ pub struct Inbox {
 
 impl Model for Inbox {
     ghost use Rattle.std.specs.Prelude.{◌≡◌};
+    ghost use Rattle.tx_types.specs.Limits.{inbox_limit};
     ghost use Rattle.atomic_table.specs.Seated.{TableId, table_id_coded};
     ghost use Rattle.crossbeam_queue.specs.Passes.{ruled_capacity};
 
@@ -44,7 +46,7 @@ impl Model for Inbox {
 
     ghost view = { λ q. q.queue.table.shared.table_id };
 
-    ghost invariant = { λ q. ruled_capacity q.queue ≡ 256 };
+    ghost invariant = { λ q. ruled_capacity q.queue ≡ inbox_limit };
 }
 
 impl Inbox {
@@ -55,7 +57,7 @@ impl Inbox {
         alloc: Global,
         devices: u8,
     ) -> Result<(Inbox, CpuPass, Vec<DevPass>), NoMemory>
-        requires { devices ≤ 16 }
+        requires { devices ≤ device_limit }
         ensures cpu { IfOk result (λ r. r.1 ≡ record {
           inbox = r.0;
           devices = devices;
@@ -82,7 +84,7 @@ impl Inbox {
         requires { pass.old.inbox ≡ self.now }
         ensures sent { OnOk result (pass.new.sent ≡ pass.old.sent ++ w ∷ []) }
         ensures full { IfErr result (λ e. (e.0 ≡ w) × (pass.new ≡ pass.old)
-            × ((items : List (ℕ × ℕ)) × (length items ≡ 256)
+            × ((items : List (ℕ × ℕ)) × (length items ≡ inbox_limit)
             × HoldsRest pass.old.number pass.old.sent items)) }
         ensures same { (pass.new.inbox ≡ pass.old.inbox) × (pass.new.number ≡ pass.old.number) }
     {
