@@ -8,6 +8,10 @@ use Rattle.region_guard.specs.Memory.{Memory, ram_base}
 use Rattle.region_guard.specs.declared.region.Region.{Region}
 use Rattle.region_guard.specs.declared.region.Rights.TheVariants.{Code, ReadWrite}
 
+-- bytes of its RAM
+abbrev pub ram_alone : ℕ
+ram_alone = 4194304
+
 -- its code lies at the start of RAM, and its data after it
 abbrev pub alone_at : Preamble → Placed
 alone_at p = record { code_base = ram_base; data_base = rounded_up 32 (ram_base + p.code_size) }

@@ -4,7 +4,7 @@ use Rattle.board_file.specs.Answer.{board_in}
 use Rattle.board_file.specs.Rules.{IsBoard}
 use Rattle.board_file.specs.declared.board.Board.{Board}
 use Rattle.board_file.specs.declared.board.BoardModule.{BoardModule}
-use Rattle.board_run.specs.Held.{file_at, image_at}
+use Rattle.board_run.specs.Held.{most_board, file_at, image_at}
 use Rattle.board_run.specs.Refused.{refused_board}
 use Rattle.board_run.specs.Step.{◌>>=◌, each}
 use Rattle.board_run.specs.declared.boards.Loaded.{Loaded}
@@ -14,7 +14,7 @@ use Rattle.board_run.specs.declared.refusal.Stop.{Stop}
 -- the board in the file of a name
 unfoldable pub board_at : List ℕ → (List ℕ → Option (List ℕ)) → Result Board Stop
 board_at name at = do
-  bytes ← file_at 65536 BoardTooLarge name at
+  bytes ← file_at most_board BoardTooLarge name at
   refused_board (board_in bytes)
 
 -- the images of modules, in their order

@@ -3,7 +3,7 @@
 use Rattle.std.specs.Prelude.{ℕ, false, List, [], Option, Some, None, Result, Ok, Err, codes}
 use Rattle.module_loader.specs.Opening.{opening}
 use Rattle.module_preamble.specs.Preamble.{preamble}
-use Rattle.board_run.specs.Alone.{alone, alone_at}
+use Rattle.board_run.specs.Alone.{ram_alone, alone, alone_at}
 use Rattle.board_run.specs.Check.{checked_at, check_text}
 use Rattle.board_run.specs.Command.{Row, Hart, Check, Replay, row_of}
 use Rattle.board_run.specs.Hart.{memory_ran, hart_text}
@@ -23,7 +23,7 @@ unfoldable pub image_ran : ℕ → List ℕ → Result Ran Stop
 image_ran most bytes = do
   p ← refused_image 0 (preamble bytes)
   let at = alone_at p in
-      Ok (memory_ran most (alone 4194304 p at bytes) (opening p at p.start false))
+      Ok (memory_ran most (alone ram_alone p at bytes) (opening p at p.start false))
 
 unfoldable pub hart_ran : List ℕ → ℕ → (List ℕ → Option (List ℕ)) → Result Ran Stop
 hart_ran name most at = do

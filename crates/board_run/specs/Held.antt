@@ -6,6 +6,16 @@ use Rattle.board_run.specs.declared.refusal.Refusal.TheVariants.{ImageTooLarge}
 use Rattle.board_run.specs.declared.refusal.Stop.{Stop}
 use Rattle.board_run.specs.declared.refusal.Stop.TheVariants.{ReadFault, Refused}
 
+-- bytes of a board file, of an image and of a log, at most
+abbrev pub most_board : ℕ
+most_board = 65536
+
+abbrev pub most_image : ℕ
+most_image = 1048576
+
+abbrev pub most_log : ℕ
+most_log = 4194304
+
 -- the bytes of a file; one that isn't held is a fault of reading
 abbrev pub held_file : Option (List ℕ) → Result (List ℕ) Stop
 held_file None = Err ReadFault
@@ -23,4 +33,4 @@ file_at most refusal name at = do
 
 -- the image of a number, from the file of a name
 abbrev pub image_at : ℕ → List ℕ → (List ℕ → Option (List ℕ)) → Result (List ℕ) Stop
-image_at number name at = file_at 1048576 (ImageTooLarge number) name at
+image_at number name at = file_at most_image (ImageTooLarge number) name at

@@ -10,7 +10,7 @@ use Rattle.event_log.specs.Text.{text_of}
 use Rattle.event_log.specs.declared.entry.Entry.{Entry}
 use Rattle.board_run.specs.Boards.{loaded_at}
 use Rattle.board_run.specs.Booting.{booted_from}
-use Rattle.board_run.specs.Held.{file_at}
+use Rattle.board_run.specs.Held.{most_log, file_at}
 use Rattle.board_run.specs.Refused.{refused_log}
 use Rattle.board_run.specs.Step.{◌>>=◌}
 use Rattle.board_run.specs.declared.boards.Loaded.{Loaded}
@@ -22,7 +22,7 @@ use Rattle.board_run.specs.declared.replay.Replayed.{Replayed}
 unfoldable pub log_at : (devices : ℕ) → List ℕ → (List ℕ → Option (List ℕ))
     → Result (List Entry) Stop
 log_at devices name at = do
-  bytes ← file_at 4194304 LogTooLarge name at
+  bytes ← file_at most_log LogTooLarge name at
   refused_log (log_in devices bytes)
 
 -- a history, and the report of what a board reaches by it

@@ -3,11 +3,13 @@
 //! Only the place and memory of an accepted image are asked for, so there is always room in RAM. No
 //! other module is there, and no instruction is executed here.
 ghost use Rattle.std.specs.Prelude.{◌≡◌, ◌+◌, ◌≤◌, ◌<◌, ◌^◌, ◌++◌, ◌∷◌, [], length, IfOk, None, Ok, position};
+ghost use Rattle.tx_types.specs.Limits.{region_limit};
 ghost use Rattle.module_loader.specs.Want.{HasSizes};
 ghost use Rattle.module_preamble.specs.Preamble.{IsAccepted};
 ghost use Rattle.region_guard.specs.Memory.{IsInRam};
 ghost use Rattle.region_guard.specs.Region.{meets};
-ghost use Rattle.board_run.specs.Alone.{alone, alone_at, code_region, data_region};
+ghost use Rattle.board_run.specs.Alone.{ram_alone, alone, alone_at, code_region, data_region};
+ghost use Rattle.board_run.specs.Held.{most_image};
 ghost use Rattle.board_run.specs.Reading.{GivesHere};
 
 use crate::placing::placed;
@@ -29,7 +31,7 @@ const MODULE_0: u16 = 1;
 #[tactic(auto, using(crate::proofs::LyingAlone::places_alone, crate::proofs::Step::never_stops))]
 pub fn place_alone(alloc: Global, p: &Preamble) -> Result<Placed, Stop>
     requires sizes { HasSizes p.now }
-    requires code { p.now.code_size ≤ 1048576 }
+    requires code { p.now.code_size ≤ most_image }
     ensures { GivesHere (λ at. at) (Ok (alone_at p.now)) result }
 {
     let places = placed(alloc, RAM_ALONE, &[want_of(p)])?;
@@ -45,10 +47,10 @@ pub fn memory_alone(
     at: Placed,
     image: &[u8],
 ) -> Result<Guard, NoMemory>
-    requires room { 4194304 ≤ size }
+    requires room { ram_alone ≤ size }
     requires addressable { size ≤ 2 ^ 31 }
     requires accepted { IsAccepted image.now p.now }
-    requires small { length image.now ≤ 1048576 }
+    requires small { length image.now ≤ most_image }
     requires place { at ≡ alone_at p.now }
     ensures { IfOk result (λ g. g ≡ alone size p.now at image.now) }
 {
@@ -88,7 +90,7 @@ fn data_region(p: &Preamble, at: Placed) -> Region
 /// Adds a region that meets no other.
 fn add(guard: &mut Guard, region: Region)
     requires in_ram { IsInRam guard.old.bytes region }
-    requires few { length guard.old.regions < 64 }
+    requires few { length guard.old.regions < region_limit }
     requires apart { position (meets region) guard.old.regions ≡ None }
     ensures { guard.new ≡ record guard.old { regions = guard.old.regions ++ region ∷ [] } }
 {

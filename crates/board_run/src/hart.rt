@@ -6,6 +6,7 @@ ghost use Rattle.std.specs.Option.{option_map};
 ghost use Rattle.tx_types.specs.Limits.{line_room};
 ghost use Rattle.arrayvec.specs.ArrayString.{array_string_len};
 ghost use Rattle.board_run.specs.Due.{image_ran, hart_ran};
+ghost use Rattle.board_run.specs.Held.{most_image};
 ghost use Rattle.board_io.specs.Faults.{Rose};
 ghost use Rattle.board_run.specs.Reading.{Gives, GivesHere};
 ghost use Rattle.board_io.specs.Sink.{Wrote};
@@ -13,7 +14,7 @@ ghost use Rattle.board_run.specs.Hart.{memory_ran, hart_text, end_text, steps_li
 
 use crate::alone::{RAM_ALONE, memory_alone, place_alone};
 use crate::images::preamble_of;
-use crate::reading::{MOST_IMAGE, image_of};
+use crate::reading::image_of;
 use crate::refusal::Stop;
 use board_core::burst;
 use board_io::{Files, Sink, WriteErr};
@@ -44,7 +45,7 @@ pub struct Ran {
 /// refusal.
 #[tactic(auto, using(crate::proofs::LyingAlone::lies_alone), unfolding(crate::specs::Due::image_ran))]
 fn image_ran(alloc: Global, image: &[u8], most: u32) -> Result<Ran, Stop>
-    requires { length image.now ≤ MOST_IMAGE }
+    requires { length image.now ≤ most_image }
     ensures { GivesHere (λ r. r) (image_ran most image.now) result }
 {
     let p = preamble_of(0, image)?;

@@ -3,6 +3,7 @@
 //! The places are those of `module_loader`; a module that finds no room is refused by its number.
 //! Nothing is read or written in RAM here.
 ghost use Rattle.std.specs.Prelude.{◌≡◌, ◌<◌, ◌≤◌, ◌^◌, length, IfOk};
+ghost use Rattle.module_loader.specs.Placement.{most_wants};
 ghost use Rattle.board_run.specs.Placing.{places_in};
 ghost use Rattle.board_run.specs.Reading.{GivesHere};
 
@@ -16,7 +17,7 @@ use std::alloc::Global;
 #[tactic(auto, using(crate::proofs::Places::length_placement))]
 pub fn placed(alloc: Global, ram: u32, wants: &[Want]) -> Result<Vec<Placed>, Stop>
     requires ram { ram < 2 ^ 31 }
-    requires few { length wants.now ≤ 256 }
+    requires few { length wants.now ≤ most_wants }
     ensures places { GivesHere (λ v. v.items) (places_in ram wants.now) result }
     ensures count { IfOk result (λ v. length v.items ≡ length wants.now) }
 {

@@ -5,7 +5,7 @@
 ghost use Rattle.std.specs.Prelude.{◌≡◌, ◌≤◌, ◌<◌, ◌^◌, length, IfOk};
 ghost use Rattle.std.specs.Option.{option_map};
 ghost use Rattle.board_io.specs.Faults.{Rose};
-ghost use Rattle.board_run.specs.Held.{file_at, image_at};
+ghost use Rattle.board_run.specs.Held.{most_image, file_at, image_at};
 ghost use Rattle.board_run.specs.Reading.{Gives};
 
 use crate::refusal::{Refusal, Stop};
@@ -13,7 +13,7 @@ use board_io::Files;
 use std::alloc::Global;
 
 /// The most bytes that an image may have.
-pub const MOST_IMAGE: u32 = 1_048_576;
+const MOST_IMAGE: u32 = 1_048_576;
 
 /// The file of a name, which is refused where it has more than the given number of bytes.
 pub fn file_of<F: Files>(
@@ -49,7 +49,7 @@ pub fn image_of<F: Files>(
     ensures counted { F.faults files.old ≤ F.faults files.new }
     ensures image { Gives (λ v. v.items) (option_map (image_at number name.now) (F.held files.old))
         (Rose (F.faults files.old) (F.faults files.new)) result }
-    ensures within { IfOk result (λ v. length v.items ≤ MOST_IMAGE) }
+    ensures within { IfOk result (λ v. length v.items ≤ most_image) }
 {
     file_of(
         alloc,
