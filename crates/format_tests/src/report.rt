@@ -3,6 +3,7 @@
 //! The reports are put together from rows that are written out here: no board is booted, and no
 //! event is made.
 ghost use Rattle.std.specs.Prelude.{◌≡◌, ◌≤◌, All, IsTrue, length};
+ghost use Rattle.tx_types.specs.Limits.{cell_limit, slot_limit};
 ghost use Rattle.board_report.specs.Printable.{IsNumbers, IsPrintable};
 
 use board_report::{lines, report_line};
@@ -299,7 +300,7 @@ fn are_numbers(numbers: &Nums) -> bool
 
 /// Whether there are 256 threads at most, each with 31 registers.
 fn are_threads(threads: &ThreadRows) -> bool
-    ensures few { IsTrue result → length threads.now ≤ 256 }
+    ensures few { IsTrue result → length threads.now ≤ slot_limit }
     ensures regs { IsTrue result → All (λ t. length t.regs ≡ 31) threads.now }
 {
     let threads = threads.as_slice();
@@ -308,7 +309,7 @@ fn are_threads(threads: &ThreadRows) -> bool
 
 /// Whether there are 256 objects at most, for which threads wait as many as a line may name.
 fn are_objects(objects: &ObjectRows) -> bool
-    ensures few { IsTrue result → length objects.now ≤ 256 }
+    ensures few { IsTrue result → length objects.now ≤ slot_limit }
     ensures waits { IsTrue result → All (λ o. IsNumbers o.waits) objects.now }
 {
     let objects = objects.as_slice();
@@ -317,8 +318,8 @@ fn are_objects(objects: &ObjectRows) -> bool
 
 /// Whether there are 256 shows at most, each of 64 words at most.
 fn are_shows(shows: &ShowRows) -> bool
-    ensures few { IsTrue result → length shows.now ≤ 256 }
-    ensures cells { IsTrue result → All (λ s. length s.cells ≤ 64) shows.now }
+    ensures few { IsTrue result → length shows.now ≤ slot_limit }
+    ensures cells { IsTrue result → All (λ s. length s.cells ≤ cell_limit) shows.now }
 {
     let shows = shows.as_slice();
     shows.len() <= 256 && shows.iter().all(|s| s.cells.as_slice().len() <= 64)
