@@ -25,7 +25,8 @@ All-first_in P by t xs own each =
 All-has : (P : ℕ → Type 0) (u : ℕ) (xs : List ℕ) → All P xs → has u xs ≡ true → P u
 All-has P u [] each member = absurd (false≢true member)
 All-has P u (x ∷ xs) each member =
-    ⊎_elim (λ here. subst P (eqb-true x u here) (All-head P x xs each)) (λ later. All-has P u xs (All-tail P x xs each) later) (or_cases (x == u) (has u xs) member)
+    ⊎_elim (λ here. subst P (eqb-true x u here) (All-head P x xs each)) (λ later. All-has P u xs (All-tail P x xs each) later)
+        (or_cases (x == u) (has u xs) member)
 
 -- the first element and each later one
 AllPairs-head : (R : ℕ → ℕ → Type 0) (x : ℕ) (xs : List ℕ) → AllPairs R (x ∷ xs) → All (R x) xs
@@ -69,23 +70,27 @@ gives_way s r b k before lower each =
 joins_alone : (s : Sched) (r k : ℕ) → is_held s k ≡ false → is_held (holding s r) k ≡ true → k ≡ r
 joins_alone s r k free =
     cond_both (nat_lt (th s r) (pr s r)) (record s { held = first_in (pr s) r s.held }) s (λ after. is_held after k ≡ true → k ≡ r)
-    (λ test held. ⊎_elim (λ here. eqb-true k r here) (λ before. absurd (both_ways (has k s.held) free before)) (or_cases (k == r) (has k s.held) (sym (has-first_in (pr s) r k s.held) ∙ held)))
+    (λ test held. ⊎_elim (λ here. eqb-true k r here) (λ before. absurd (both_ways (has k s.held) free before))
+        (or_cases (k == r) (has k s.held) (sym (has-first_in (pr s) r k s.held) ∙ held)))
     (λ test held. absurd (both_ways (has k s.held) free held))
 
-joins_giving : (s : Sched) (r b k : ℕ) → pr s b < th s r → All (λ j. pr s r < pr s j) s.held → is_held s k ≡ false → StaysWell k (record (holding s r) { run = Some b })
+joins_giving : (s : Sched) (r b k : ℕ) → pr s b < th s r → All (λ j. pr s r < pr s j) s.held → is_held s k ≡ false
+    → StaysWell k (record (holding s r) { run = Some b })
 joins_giving s r b k lower below free held =
     let each = All-weaker (λ j. pr s r < pr s j) (IsBefore s r) (λ j more less. absurd (omega arith)) s.held below in
     let own = gives_way s r b r (λ less. absurd (omega arith)) lower each in
     subst (λ j. StaysWell j (record (holding s r) { run = Some b })) (sym (joins_alone s r k free held)) own held
 
-joins_challenged : (s : Sched) (t k : ℕ) (o : Option ℕ) → ((r : ℕ) → o ≡ Some r → All (λ j. pr s r < pr s j) s.held) → is_held s k ≡ false → is_held (challenged s t o) k ≡ true → IsWellHeld (challenged s t o) k
+joins_challenged : (s : Sched) (t k : ℕ) (o : Option ℕ) → ((r : ℕ) → o ≡ Some r → All (λ j. pr s r < pr s j) s.held) → is_held s k ≡ false
+    → is_held (challenged s t o) k ≡ true → IsWellHeld (challenged s t o) k
 joins_challenged s t k None below free held = absurd (both_ways (has k s.held) free held)
 joins_challenged s t k (Some r) below free kept =
     cond_both (nat_lt (pr s t) (th s r)) (record (holding s r) { run = Some t }) s (StaysWell k)
     (λ test. joins_giving s r t k (ltb-true (pr s t) (th s r) test) (below r refl) free)
     (λ test held. absurd (both_ways (has k s.held) free held)) kept
 
-joins_giving_way : (s : Sched) (t k : ℕ) (o : Option ℕ) → All (λ j. pr s t < pr s j) s.held → is_held s k ≡ false → is_held (giving_way s t o) k ≡ true → IsWellHeld (giving_way s t o) k
+joins_giving_way : (s : Sched) (t k : ℕ) (o : Option ℕ) → All (λ j. pr s t < pr s j) s.held → is_held s k ≡ false → is_held (giving_way s t o) k ≡ true
+    → IsWellHeld (giving_way s t o) k
 joins_giving_way s t k None below free held = absurd (both_ways (has k s.held) free held)
 joins_giving_way s t k (Some b) below free kept =
     cond_both (nat_lt (pr s b) (th s t)) (record (holding s t) { run = Some b }) s (StaysWell k)
@@ -115,14 +120,16 @@ runs_on : (s : Sched) (r k : ℕ) → s.run ≡ Some r → pr s r < th s k → A
 runs_on s r k same own each held =
     record { is_held = held; runner = subst (λ o. IfSome o (λ q. pr s q < th s k)) (sym same) own; holders = each }
 
-stays_challenged : (s : Sched) (t k : ℕ) (o : Option ℕ) → s.run ≡ o → o ≢ None → ((u : ℕ) → th s u ≤ pr s u) → IfSome o (λ r. pr s r < th s k) → All (IsBefore s k) s.held → StaysWell k (challenged s t o)
+stays_challenged : (s : Sched) (t k : ℕ) (o : Option ℕ) → s.run ≡ o → o ≢ None → ((u : ℕ) → th s u ≤ pr s u) → IfSome o (λ r. pr s r < th s k)
+    → All (IsBefore s k) s.held → StaysWell k (challenged s t o)
 stays_challenged s t k None same some low own each = absurd (some refl)
 stays_challenged s t k (Some r) same some low own each =
     cond_both (nat_lt (pr s t) (th s r)) (record (holding s r) { run = Some t }) s (StaysWell k)
     (λ test. let less = ltb-true (pr s t) (th s r) test in let bound = low r in gives_way s r t k (λ less. own) (omega arith) each)
     (λ test. runs_on s r k same own each)
 
-stays_giving_way : (s : Sched) (t k : ℕ) (o : Option ℕ) → s.run ≡ Some t → th s t ≤ pr s t → pr s t < th s k → All (IsBefore s k) s.held → StaysWell k (giving_way s t o)
+stays_giving_way : (s : Sched) (t k : ℕ) (o : Option ℕ) → s.run ≡ Some t → th s t ≤ pr s t → pr s t < th s k → All (IsBefore s k) s.held
+    → StaysWell k (giving_way s t o)
 stays_giving_way s t k None same low own each = runs_on s t k same own each
 stays_giving_way s t k (Some b) same low own each =
     cond_both (nat_lt (pr s b) (th s t)) (record (holding s t) { run = Some b }) s (StaysWell k)
@@ -130,7 +137,8 @@ stays_giving_way s t k (Some b) same low own each =
     (λ test. runs_on s t k same own each)
 
 -- the first holder j, or else the best thread h, runs
-stays_picked_before : (s : Sched) (h k : ℕ) (js : List ℕ) → s.held ≡ js → ((u : ℕ) → th s u ≤ pr s u) → AllPairs (λ i j. pr s i < pr s j) js → All (IsBefore s k) js → StaysWell k (picked_before s h (slice_get js 0))
+stays_picked_before : (s : Sched) (h k : ℕ) (js : List ℕ) → s.held ≡ js → ((u : ℕ) → th s u ≤ pr s u) → AllPairs (λ i j. pr s i < pr s j) js
+    → All (IsBefore s k) js → StaysWell k (picked_before s h (slice_get js 0))
 stays_picked_before s h k [] same low climb each = λ held. absurd (false≢true (subst (λ js. has k js ≡ true) same held))
 stays_picked_before s h k (j ∷ js) same low climb each =
     let first = All-head (IsBefore s k) j js each in
@@ -138,15 +146,19 @@ stays_picked_before s h k (j ∷ js) same low climb each =
     let later : has k js ≡ true → pr s j < th s k = λ member. first (All-has (λ i. pr s j < pr s i) k js behind member) in
     let rest : drop 1 s.held ≡ js = ap (drop 1) same in
     cond_both (nat_le (th s j) (pr s h)) (record s { run = Some j; held = drop 1 s.held }) (record s { run = Some h }) (StaysWell k)
-    (λ test held. record { is_held = held; runner = later (subst (λ xs. has k xs ≡ true) rest held); holders = All-drop (IsBefore s k) 1 s.held (All-same (IsBefore s k) s.held (j ∷ js) same each) })
+    (λ test held. record
+        { is_held = held; runner = later (subst (λ xs. has k xs ≡ true) rest held); holders = All-drop (IsBefore s k) 1 s.held
+        (All-same (IsBefore s k) s.held (j ∷ js) same each) })
     (λ test held.
     let urgent : pr s h < th s j = leb-false (th s j) (pr s h) test in
     let bound = low j in
     let member : ((j == k) || has k js) ≡ true = subst (λ xs. has k xs ≡ true) same held in
-    let lower : pr s h < th s k = ⊎_elim (λ here. subst (λ i. pr s h < th s i) (eqb-true j k here) urgent) (λ behind_j. let own = later behind_j in omega arith) (or_cases (j == k) (has k js) member) in
+    let lower : pr s h < th s k = ⊎_elim (λ here. subst (λ i. pr s h < th s i) (eqb-true j k here) urgent) (λ behind_j. let own = later behind_j in omega arith)
+        (or_cases (j == k) (has k js) member) in
     record { is_held = held; runner = lower; holders = All-same (IsBefore s k) s.held (j ∷ js) same each })
 
-stays_picked : (s : Sched) (k : ℕ) (o : Option ℕ) → ((u : ℕ) → th s u ≤ pr s u) → AllPairs (λ i j. pr s i < pr s j) s.held → All (IsBefore s k) s.held → StaysWell k (picked s o)
+stays_picked : (s : Sched) (k : ℕ) (o : Option ℕ) → ((u : ℕ) → th s u ≤ pr s u) → AllPairs (λ i j. pr s i < pr s j) s.held → All (IsBefore s k) s.held
+    → StaysWell k (picked s o)
 stays_picked s k None low climb each held = record { is_held = held; runner = tt; holders = each }
 stays_picked s k (Some h) low climb each held =
     stays_picked_before s h k s.held refl low climb each held
@@ -166,7 +178,8 @@ stays_yielded s k (Some r) kept well =
     let now = placed_last (record s { order = without r s.order }) r in
     stays_picked now k (best now) kept.laid_out.thresholds kept.laid_out.holders_climb well.holders
 
-stays_threshold_set : (s : Sched) (t threshold k : ℕ) → IsKept s → MayMove s (SetThreshold t threshold) → t ≢ k → IsWellHeld s k → StaysWell k (moved s (SetThreshold t threshold))
+stays_threshold_set : (s : Sched) (t threshold k : ℕ) → IsKept s → MayMove s (SetThreshold t threshold) → t ≢ k → IsWellHeld s k
+    → StaysWell k (moved s (SetThreshold t threshold))
 stays_threshold_set s t threshold k kept may other well =
     let now = with_threshold s t threshold in
     let same = sym (th-other s t threshold k (λ e. other (sym e))) in

@@ -19,7 +19,8 @@ record IsLed (start now : Sched) (a : ℕ) : Type 0 where
   numbers : SameNumbers start now
   runner : Follows start a now.run
 
-follows_challenged : (start now : Sched) (t a : ℕ) (o : Option ℕ) → now.run ≡ o → SameNumbers start now → ((u : ℕ) → th now u ≤ pr now u) → Follows start a o → Follows start a (challenged now t o).run
+follows_challenged : (start now : Sched) (t a : ℕ) (o : Option ℕ) → now.run ≡ o → SameNumbers start now → ((u : ℕ) → th now u ≤ pr now u) → Follows start a o
+    → Follows start a (challenged now t o).run
 follows_challenged start now t a None same numbers low f = absurd f
 follows_challenged start now t a (Some r) same numbers low f =
     cond_both (nat_lt (pr now t) (th now r)) (record (holding now r) { run = Some t }) now (λ after. Follows start a after.run)
@@ -38,7 +39,8 @@ led_step : MovesKeepTheFacts → (start now : Sched) (a : ℕ) (m : Move) → Is
 led_step keeps start now a (Ready t) led may arrival = record {
   kept = keeps now (Ready t ∷ []) led.kept (may, tt);
   numbers = same_then start now (readied now t) led.numbers (ready_keeps_numbers now t);
-  runner = follows_challenged start (placed_last now t) t a now.run refl (record { levels = led.numbers.levels; priority = led.numbers.priority; threshold = led.numbers.threshold }) led.kept.laid_out.thresholds led.runner;
+  runner = follows_challenged start (placed_last now t) t a now.run refl
+      (record { levels = led.numbers.levels; priority = led.numbers.priority; threshold = led.numbers.threshold }) led.kept.laid_out.thresholds led.runner;
 }
 led_step keeps start now a (Unready t) led may arrival =
     let stays : unreadied now t ≡ taken_out now t = cond-false (runs now t) (pick (taken_out now t)) (taken_out now t) arrival in
@@ -51,7 +53,8 @@ led_step keeps start now a Yield led may arrival = absurd arrival
 led_step keeps start now a (SetThreshold t threshold) led may arrival = absurd arrival
 led_step keeps start now a (SetPriority t priority threshold) led may arrival = absurd arrival
 
-led_all : MovesKeepTheFacts → (start now : Sched) (a : ℕ) (ms : List Move) → IsLed start now a → MayMoveAll now ms → AreArrivals now ms → IsLed start (all_moved now ms) a
+led_all : MovesKeepTheFacts → (start now : Sched) (a : ℕ) (ms : List Move) → IsLed start now a → MayMoveAll now ms → AreArrivals now ms
+    → IsLed start (all_moved now ms) a
 led_all keeps start now a [] led may arrivals = led
 led_all keeps start now a (m ∷ ms) led may arrivals =
     led_all keeps start (moved now m) a ms (led_step keeps start now a m led may.0 arrivals.0) may.1 arrivals.1
@@ -59,6 +62,7 @@ led_all keeps start now a (m ∷ ms) led may arrivals =
 pub threshold_law : MovesKeepTheFacts → ThresholdLaw
 threshold_law keeps s ms a b kept may arrivals runs_a runs_b other =
     let first : Follows s a s.run = subst (Follows s a) (sym runs_a) (λ ne. absurd (ne refl)) in
-    let led = led_all keeps s s a ms (record { kept = kept; numbers = record { levels = refl; priority = refl; threshold = refl }; runner = first }) may arrivals in
+    let led = led_all keeps s s a ms (record { kept = kept; numbers = record { levels = refl; priority = refl; threshold = refl }; runner = first }) may
+        arrivals in
     let last : Follows s a (Some b) = subst (Follows s a) runs_b led.runner in
     last (λ same. other (sym same))

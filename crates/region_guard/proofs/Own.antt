@@ -32,7 +32,8 @@ length_filter q [] = omega arith
 length_filter q (x ∷ xs) = length_first (q x) x (filter q xs) (length xs) (length_filter q xs)
 
 -- what is read at a module's number is the list of its regions
-pub own_at : (rs : List Region) (own : List (List Region)) (m : ℕ) (list : List Region) → AreOwn rs own → m < 16 → list ≡ slice_index_or own m list → list ≡ filter (is_for m) rs
+pub own_at : (rs : List Region) (own : List (List Region)) (m : ℕ) (list : List Region) → AreOwn rs own → m < 16 → list ≡ slice_index_or own m list
+    → list ≡ filter (is_for m) rs
 own_at rs own m list are below read = get_or_read_under own m 16 list [] read below (sym are.modules) ∙ are.each m below
 
 pub own_any : (rs list : List Region) (m : ℕ) (k : Access) (a n : ℕ) → list ≡ filter (is_for m) rs → list_any (allows k a n) list ≡ list_any (lets m k a n) rs
@@ -43,4 +44,5 @@ own_all P rs list m same all = subst (All P) (sym same) (All-filter (is_for m) P
 
 pub own_room : (rs : List Region) (own : List (List Region)) → AreOwn rs own → length rs < 64 → All (λ list. length list < 64) own
 own_room rs own are room =
-    All-from_get_or (λ list. length list < 64) own [] (λ m below. let same = are.each m (omega (arith, are.modules)) in let shorter = length_filter (is_for m) rs in rw same (omega arith))
+    All-from_get_or (λ list. length list < 64) own []
+        (λ m below. let same = are.each m (omega (arith, are.modules)) in let shorter = length_filter (is_for m) rs in rw same (omega arith))

@@ -9,7 +9,8 @@ use Rattle.rv_core.specs.declared.bus.Cause.{Cause}
 use Rattle.rv_core.specs.declared.execute.Out.TheVariants.{Call, Fault}
 
 -- an instruction that completes where a test holds, and faults elsewhere
-either : {B : Type 0} (f : B → (a n value : ℕ) → B) (bus : B) (test : Bool) (after : HartState) (cause : Cause) → bus_after f (cond test (Completes after) (Faults cause)) bus ≡ bus
+either : {B : Type 0} (f : B → (a n value : ℕ) → B) (bus : B) (test : Bool) (after : HartState) (cause : Cause)
+    → bus_after f (cond test (Completes after) (Faults cause)) bus ≡ bus
 either f bus true after cause = refl
 either f bus false after cause = refl
 
@@ -38,7 +39,8 @@ branches_store_nothing h false imm old new = tt
 pub ruleset keeps_the_bus = (jumps_keep, branches_keep, jumps_store_nothing, branches_store_nothing)
 
 -- a call goes to the next instruction, and a fault changes nothing
-either_call : (h after : HartState) (test : Bool) (cause : Cause) → out_of (cond test (Completes after) (Faults cause)) ≡ Call → hart_after (cond test (Completes after) (Faults cause)) h ≡ advanced h
+either_call : (h after : HartState) (test : Bool) (cause : Cause) → out_of (cond test (Completes after) (Faults cause)) ≡ Call
+    → hart_after (cond test (Completes after) (Faults cause)) h ≡ advanced h
 either_call h after true cause is = cc
 either_call h after false cause is = cc
 
@@ -51,11 +53,13 @@ unfolding branches goes_to
 branches_call h true imm is = either_call h _ _ _ is
 branches_call h false imm is = cc
 
-loads_call : (h : HartState) (rd : ℕ) (extend : ℕ → ℕ) (r : Result ℕ Cause) → out_of (loads_by h rd extend r) ≡ Call → hart_after (loads_by h rd extend r) h ≡ advanced h
+loads_call : (h : HartState) (rd : ℕ) (extend : ℕ → ℕ) (r : Result ℕ Cause) → out_of (loads_by h rd extend r) ≡ Call
+    → hart_after (loads_by h rd extend r) h ≡ advanced h
 loads_call h rd extend (Ok value) is = cc
 loads_call h rd extend (Err cause) is = cc
 
-stores_call : (h : HartState) (a n value : ℕ) (r : Result (Unit {0}) Cause) → out_of (stores_by h a n value r) ≡ Call → hart_after (stores_by h a n value r) h ≡ advanced h
+stores_call : (h : HartState) (a n value : ℕ) (r : Result (Unit {0}) Cause) → out_of (stores_by h a n value r) ≡ Call
+    → hart_after (stores_by h a n value r) h ≡ advanced h
 stores_call h a n value (Ok done) is = cc
 stores_call h a n value (Err cause) is = cc
 
@@ -79,7 +83,8 @@ effect_call (Sw rs1 rs2 imm) m h is = stores_call h _ 4 _ _ is
 effect_call Ecall m h is = refl
 effect_call i m h is = cc
 
-pub effect_fault : {B : Type 0} (store : B → (a n value : ℕ) → B) (e : Effect) (h : HartState) (bus : B) (cause : Cause) → out_of e ≡ Fault cause → (hart_after e h ≡ h) × (bus_after store e bus ≡ bus)
+pub effect_fault : {B : Type 0} (store : B → (a n value : ℕ) → B) (e : Effect) (h : HartState) (bus : B) (cause : Cause) → out_of e ≡ Fault cause
+    → (hart_after e h ≡ h) × (bus_after store e bus ≡ bus)
 effect_fault store (Completes after) h bus cause is = cc
 effect_fault store (Stores a n value after) h bus cause is = cc
 effect_fault store (Calls after) h bus cause is = cc

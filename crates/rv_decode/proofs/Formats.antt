@@ -76,7 +76,8 @@ s_fields o f3 a b z code code3 fits =
     let n = field 12 z in
     let small = field_at-lt (2 ^ 11) z (omega arith) in
     let r = r_fields o f3 (bits n 5 7) (bits n 0 5) a b code code3 (omega arith) (omega arith, fits.0, fits.1) in
-    let whole : bits (s_word o f3 a b z) 25 7 * 2 ^ 5 + bits (s_word o f3 a b z) 7 5 ≡ n = ap (λ x. x * 2 ^ 5 + bits (s_word o f3 a b z) 7 5) r.code7 ∙ ap (λ x. bits n 5 7 * 2 ^ 5 + x) r.destination ∙ omega arith in
+    let whole : bits (s_word o f3 a b z) 25 7 * 2 ^ 5 + bits (s_word o f3 a b z) 7 5 ≡ n = ap (λ x. x * 2 ^ 5 + bits (s_word o f3 a b z) 7 5) r.code7
+        ∙ ap (λ x. bits n 5 7 * 2 ^ 5 + x) r.destination ∙ omega arith in
     record {
       code = r.code;
       code3 = r.code3;
@@ -221,7 +222,8 @@ upper_place o d u p q r = omega arith
 upper_bits : (o d u : ℕ) → o < 2 ^ 7 → d < 32 → u < 2 ^ 20 → bits (o + 2 ^ 7 * d + 2 ^ 12 * u) 12 20 ≡ u
 upper_bits o d u p q r = omega arith
 
-j_regroup : (o d n : ℕ) → o + 2 ^ 7 * d + 2 ^ 12 * bits n 12 8 + 2 ^ 20 * bits n 11 1 + 2 ^ 21 * bits n 1 10 + 2 ^ 31 * bits n 20 1 ≡ o + 2 ^ 7 * d + 2 ^ 12 * j_filled n
+j_regroup : (o d n : ℕ)
+    → o + 2 ^ 7 * d + 2 ^ 12 * bits n 12 8 + 2 ^ 20 * bits n 11 1 + 2 ^ 21 * bits n 1 10 + 2 ^ 31 * bits n 20 1 ≡ o + 2 ^ 7 * d + 2 ^ 12 * j_filled n
 j_regroup o d n = omega arith
 
 pub j_fields : (o d : ℕ) (z : ℤ) → o < 2 ^ 7 → FitsJ d z → IsJWord (j_word o d z) o d z

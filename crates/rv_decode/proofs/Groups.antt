@@ -20,7 +20,8 @@ abbrev among : List Row → ℕ → Option Instr
 among [] w = None
 among (r ∷ rs) w = cond (has_codes r.codes w) (Some (r.instruction w)) (among rs w)
 
-mapped : (b : Bool) (r : Row) (o : Option Row) (w : ℕ) → option_map (λ x. x.instruction w) (cond b (Some r) o) ≡ cond b (Some (r.instruction w)) (option_map (λ x. x.instruction w) o)
+mapped : (b : Bool) (r : Row) (o : Option Row) (w : ℕ) → option_map (λ x. x.instruction w) (cond b (Some r) o) ≡ cond b (Some (r.instruction w))
+    (option_map (λ x. x.instruction w) o)
 mapped true r o w = refl
 mapped false r o w = refl
 
@@ -80,7 +81,9 @@ systems w e = group 0x73 w e
 
 -- a word with none of the opcodes has no row
 abbrev is_known : ℕ → Bool
-is_known o = o == 0x37 || (o == 0x17 || (o == 0x6F || (o == 0x67 || (o == 0x63 || (o == 0x03 || (o == 0x23 || (o == 0x13 || (o == 0x33 || (o == 0x0F || (o == 0x73))))))))))
+is_known o =
+    o == 0x37 || (o == 0x17 ||
+    (o == 0x6F || (o == 0x67 || (o == 0x63 || (o == 0x03 || (o == 0x23 || (o == 0x13 || (o == 0x33 || (o == 0x0F || (o == 0x73))))))))))
 
 known : list_all (λ r. is_known r.opcode) table ≡ true
 known = refl
@@ -98,7 +101,8 @@ none_unknown (Some i) w e h = absurd (let k = known_opcode w i (sym e) in cc)
 none_of : (o : ℕ) → o ≢ 0x37 → o ≢ 0x17 → o ≢ 0x6F → o ≢ 0x67 → o ≢ 0x63 → o ≢ 0x03 → o ≢ 0x23 → o ≢ 0x13 → o ≢ 0x33 → o ≢ 0x0F → o ≢ 0x73 → is_known o ≡ false
 none_of o h0 h1 h2 h3 h4 h5 h6 h7 h8 h9 h10 = grind (arith, nat_tests)
 
-pub unknown : (w : ℕ) → opcode w ≢ 0x37 → opcode w ≢ 0x17 → opcode w ≢ 0x6F → opcode w ≢ 0x67 → opcode w ≢ 0x63 → opcode w ≢ 0x03 → opcode w ≢ 0x23 → opcode w ≢ 0x13 → opcode w ≢ 0x33 → opcode w ≢ 0x0F → opcode w ≢ 0x73 → decoded w ≡ None
+pub unknown : (w : ℕ) → opcode w ≢ 0x37 → opcode w ≢ 0x17 → opcode w ≢ 0x6F → opcode w ≢ 0x67 → opcode w ≢ 0x63 → opcode w ≢ 0x03 → opcode w ≢ 0x23
+    → opcode w ≢ 0x13 → opcode w ≢ 0x33 → opcode w ≢ 0x0F → opcode w ≢ 0x73 → decoded w ≡ None
 unknown w h0 h1 h2 h3 h4 h5 h6 h7 h8 h9 h10 = none_unknown (decoded w) w refl (none_of (opcode w) h0 h1 h2 h3 h4 h5 h6 h7 h8 h9 h10)
 
 -- a word of a register operation has one of three codes

@@ -189,7 +189,8 @@ next : (k : ℕ) → 0 < k → k ≡ 1 + (k - 1)
 next k p = omega arith
 
 -- the two shifts of the code are sign extension
-pub extended : (n width : ℕ) (z : ℤ) → 0 < width → width ≤ 32 → n < 2 ^ width → FitsSigned w32 z → z ≡ to_z w32 (n * 2 ^ (32 - width) % 2 ^ 32) → to_z w32 (of_z w32 (shr_z (to_z w32 (of_z w32 z)) (2 ^ (32 - width)))) ≡ signed width n
+pub extended : (n width : ℕ) (z : ℤ) → 0 < width → width ≤ 32 → n < 2 ^ width → FitsSigned w32 z → z ≡ to_z w32 (n * 2 ^ (32 - width) % 2 ^ 32)
+    → to_z w32 (of_z w32 (shr_z (to_z w32 (of_z w32 z)) (2 ^ (32 - width)))) ≡ signed width n
 extended n width z positive narrow below fits e =
     let spare = 32 - width in
     let h = 2 ^ (width - 1) in

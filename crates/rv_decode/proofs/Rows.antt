@@ -39,7 +39,8 @@ j_decodes k o make d z row p =
     row_decodes k (j_type o make) (j_word o d z) row (test1 fields.code)
     ∙ ap Some (ap (λ x. make x (j_immediate (j_word o d z))) fields.destination ∙ ap (make d) fields.immediate)
 
-i_decodes : (k o f3 : ℕ) (make : ℕ → ℕ → ℤ → Instr) (d a : ℕ) (z : ℤ) → slice_get table k ≡ Some (i_type o f3 make) → FitsI d a z → decoded (i_word o f3 d a z) ≡ Some (make d a z)
+i_decodes : (k o f3 : ℕ) (make : ℕ → ℕ → ℤ → Instr) (d a : ℕ) (z : ℤ) → slice_get table k ≡ Some (i_type o f3 make) → FitsI d a z
+    → decoded (i_word o f3 d a z) ≡ Some (make d a z)
 i_decodes k o f3 make d a z row p =
     let codes = row_fits k (i_type o f3 make) row in
     let fields = i_fields o f3 d a z (grind (arith, nat_tests)) (grind (arith, nat_tests)) p in
@@ -47,7 +48,8 @@ i_decodes k o f3 make d a z row p =
     row_decodes k (i_type o f3 make) w row (test2 fields.code fields.code3)
     ∙ ap Some (ap (λ x. make x (rs1 w) (i_immediate w)) fields.destination ∙ ap (λ y. make d y (i_immediate w)) fields.source ∙ ap (make d a) fields.immediate)
 
-s_decodes : (k o f3 : ℕ) (make : ℕ → ℕ → ℤ → Instr) (a b : ℕ) (z : ℤ) → slice_get table k ≡ Some (s_type o f3 make) → FitsS a b z → decoded (s_word o f3 a b z) ≡ Some (make a b z)
+s_decodes : (k o f3 : ℕ) (make : ℕ → ℕ → ℤ → Instr) (a b : ℕ) (z : ℤ) → slice_get table k ≡ Some (s_type o f3 make) → FitsS a b z
+    → decoded (s_word o f3 a b z) ≡ Some (make a b z)
 s_decodes k o f3 make a b z row p =
     let codes = row_fits k (s_type o f3 make) row in
     let fields = s_fields o f3 a b z (grind (arith, nat_tests)) (grind (arith, nat_tests)) p in
@@ -55,7 +57,8 @@ s_decodes k o f3 make a b z row p =
     row_decodes k (s_type o f3 make) w row (test2 fields.code fields.code3)
     ∙ ap Some (ap (λ x. make x (rs2 w) (s_immediate w)) fields.first ∙ ap (λ y. make a y (s_immediate w)) fields.second ∙ ap (make a b) fields.immediate)
 
-b_decodes : (k o f3 : ℕ) (make : ℕ → ℕ → ℤ → Instr) (a b : ℕ) (z : ℤ) → slice_get table k ≡ Some (b_type o f3 make) → FitsB a b z → decoded (b_word o f3 a b z) ≡ Some (make a b z)
+b_decodes : (k o f3 : ℕ) (make : ℕ → ℕ → ℤ → Instr) (a b : ℕ) (z : ℤ) → slice_get table k ≡ Some (b_type o f3 make) → FitsB a b z
+    → decoded (b_word o f3 a b z) ≡ Some (make a b z)
 b_decodes k o f3 make a b z row p =
     let codes = row_fits k (b_type o f3 make) row in
     let fields = b_fields o f3 a b z (grind (arith, nat_tests)) (grind (arith, nat_tests)) p in
@@ -63,7 +66,8 @@ b_decodes k o f3 make a b z row p =
     row_decodes k (b_type o f3 make) w row (test2 fields.code fields.code3)
     ∙ ap Some (ap (λ x. make x (rs2 w) (b_immediate w)) fields.first ∙ ap (λ y. make a y (b_immediate w)) fields.second ∙ ap (make a b) fields.immediate)
 
-r_decodes : (k o f3 f7 : ℕ) (make : ℕ → ℕ → ℕ → Instr) (d a b : ℕ) → slice_get table k ≡ Some (r_type o f3 f7 make) → FitsR d a b → decoded (r_word o f3 f7 d a b) ≡ Some (make d a b)
+r_decodes : (k o f3 f7 : ℕ) (make : ℕ → ℕ → ℕ → Instr) (d a b : ℕ) → slice_get table k ≡ Some (r_type o f3 f7 make) → FitsR d a b
+    → decoded (r_word o f3 f7 d a b) ≡ Some (make d a b)
 r_decodes k o f3 f7 make d a b row p =
     let codes = row_fits k (r_type o f3 f7 make) row in
     let fields = r_fields o f3 f7 d a b (grind (arith, nat_tests)) (grind (arith, nat_tests)) (grind (arith, nat_tests)) p in
@@ -135,7 +139,8 @@ j_row o w below t =
     let code : opcode w ≡ o = grind (arith, nat_tests) in
     ((register w 7, j_formed w), ap (λ x. j_word x (rd w) (j_immediate w)) (sym code) ∙ j_again w below)
 
-i_row : (o f3 w : ℕ) → w < 2 ^ 32 → ((opcode w == o) && (funct3 w == f3)) ≡ true → FitsI (rd w) (rs1 w) (i_immediate w) × (i_word o f3 (rd w) (rs1 w) (i_immediate w) ≡ w)
+i_row : (o f3 w : ℕ) → w < 2 ^ 32 → ((opcode w == o) && (funct3 w == f3)) ≡ true → FitsI (rd w) (rs1 w) (i_immediate w)
+    × (i_word o f3 (rd w) (rs1 w) (i_immediate w) ≡ w)
 i_row o f3 w below t =
     let code : opcode w ≡ o = grind (arith, nat_tests) in
     let code3 : funct3 w ≡ f3 = grind (arith, nat_tests) in (
@@ -145,7 +150,8 @@ i_row o f3 w below t =
           ∙ i_again w below,
     )
 
-s_row : (o f3 w : ℕ) → w < 2 ^ 32 → ((opcode w == o) && (funct3 w == f3)) ≡ true → FitsS (rs1 w) (rs2 w) (s_immediate w) × (s_word o f3 (rs1 w) (rs2 w) (s_immediate w) ≡ w)
+s_row : (o f3 w : ℕ) → w < 2 ^ 32 → ((opcode w == o) && (funct3 w == f3)) ≡ true → FitsS (rs1 w) (rs2 w) (s_immediate w)
+    × (s_word o f3 (rs1 w) (rs2 w) (s_immediate w) ≡ w)
 s_row o f3 w below t =
     let code : opcode w ≡ o = grind (arith, nat_tests) in
     let code3 : funct3 w ≡ f3 = grind (arith, nat_tests) in (
@@ -155,7 +161,8 @@ s_row o f3 w below t =
           ∙ s_again w below,
     )
 
-b_row : (o f3 w : ℕ) → w < 2 ^ 32 → ((opcode w == o) && (funct3 w == f3)) ≡ true → FitsB (rs1 w) (rs2 w) (b_immediate w) × (b_word o f3 (rs1 w) (rs2 w) (b_immediate w) ≡ w)
+b_row : (o f3 w : ℕ) → w < 2 ^ 32 → ((opcode w == o) && (funct3 w == f3)) ≡ true → FitsB (rs1 w) (rs2 w) (b_immediate w)
+    × (b_word o f3 (rs1 w) (rs2 w) (b_immediate w) ≡ w)
 b_row o f3 w below t =
     let code : opcode w ≡ o = grind (arith, nat_tests) in
     let code3 : funct3 w ≡ f3 = grind (arith, nat_tests) in (
@@ -165,7 +172,8 @@ b_row o f3 w below t =
           ∙ b_again w below,
     )
 
-r_row : (o f3 f7 w : ℕ) → w < 2 ^ 32 → ((opcode w == o) && ((funct3 w == f3) && (funct7 w == f7))) ≡ true → FitsR (rd w) (rs1 w) (rs2 w) × (r_word o f3 f7 (rd w) (rs1 w) (rs2 w) ≡ w)
+r_row : (o f3 f7 w : ℕ) → w < 2 ^ 32 → ((opcode w == o) && ((funct3 w == f3) && (funct7 w == f7))) ≡ true → FitsR (rd w) (rs1 w) (rs2 w)
+    × (r_word o f3 f7 (rd w) (rs1 w) (rs2 w) ≡ w)
 r_row o f3 f7 w below t =
     let code : opcode w ≡ o = grind (arith, nat_tests) in
     let code3 : funct3 w ≡ f3 = grind (arith, nat_tests) in

@@ -68,7 +68,8 @@ list_all-at p (r ∷ rs) zero row a h =
 list_all-at p (r ∷ rs) (suc k) row a h = list_all-at p rs k row (and_true (p r) (list_all p rs) a).1 h
 
 -- the row that takes a word is the one found
-found : (rows : List Row) (k : ℕ) (row : Row) (w : ℕ) → all_apart rows ≡ true → slice_get rows k ≡ Some row → takes row w ≡ true → find (λ r. takes r w) rows ≡ Some row
+found : (rows : List Row) (k : ℕ) (row : Row) (w : ℕ) → all_apart rows ≡ true → slice_get rows k ≡ Some row → takes row w ≡ true
+    → find (λ r. takes r w) rows ≡ Some row
 found [] k row w a h t = cc
 found (r ∷ rs) zero row w a h t =
     let e : r ≡ row = cc in
@@ -86,13 +87,15 @@ unfolding decoded
 row_decodes k row w h t = ap (option_map (λ r. r.instruction w)) (found table k row w table_apart h t)
 
 -- a row that is found takes the word, and what holds of each row holds of it
-found_row : (rows : List Row) (P : Row → Type 0) (w : ℕ) (i : Instr) → AllByRecursion P rows → option_map (λ r. r.instruction w) (find (λ r. takes r w) rows) ≡ Some i → (row : Row) × P row × (takes row w ≡ true) × (row.instruction w ≡ i)
+found_row : (rows : List Row) (P : Row → Type 0) (w : ℕ) (i : Instr) → AllByRecursion P rows
+    → option_map (λ r. r.instruction w) (find (λ r. takes r w) rows) ≡ Some i → (row : Row) × P row × (takes row w ≡ true) × (row.instruction w ≡ i)
 found_row [] P w i all h = absurd cc
 found_row (r ∷ rs) P w i all h =
     let Q : Option Row → Type 0 = λ o. option_map (λ x. x.instruction w) o ≡ Some i → (row : Row) × P row × (takes row w ≡ true) × (row.instruction w ≡ i) in
     cond_both (takes r w) (Some r) (find (λ x. takes x w) rs) Q (λ t e. (r, all.0, t, cc)) (λ _ e. found_row rs P w i all.1 e) h
 
-pub decoded_row : (P : Row → Type 0) (w : ℕ) (i : Instr) → AllByRecursion P table → decoded w ≡ Some i → (row : Row) × P row × (takes row w ≡ true) × (row.instruction w ≡ i)
+pub decoded_row : (P : Row → Type 0) (w : ℕ) (i : Instr) → AllByRecursion P table → decoded w ≡ Some i → (row : Row) × P row × (takes row w ≡ true)
+    × (row.instruction w ≡ i)
 unfolding decoded
 decoded_row P w i all h = found_row table P w i all h
 
@@ -101,5 +104,6 @@ all_pass : (p : Row → Bool) (rows : List Row) → list_all p rows ≡ true →
 all_pass p [] h = tt
 all_pass p (r ∷ rs) h = let both = and_true (p r) (list_all p rs) h in (both.0, all_pass p rs both.1)
 
-pub decoded_pass : (p : Row → Bool) (w : ℕ) (i : Instr) → list_all p table ≡ true → decoded w ≡ Some i → (row : Row) × (p row ≡ true) × (takes row w ≡ true) × (row.instruction w ≡ i)
+pub decoded_pass : (p : Row → Bool) (w : ℕ) (i : Instr) → list_all p table ≡ true → decoded w ≡ Some i → (row : Row) × (p row ≡ true) × (takes row w ≡ true)
+    × (row.instruction w ≡ i)
 decoded_pass p w i h e = decoded_row (λ r. p r ≡ true) w i (all_pass p table h) e

@@ -3,4 +3,5 @@ use Rattle.ready_maps.proofs.ListFacts.{position_or_end}
 use Rattle.ready_maps.proofs.lists.first_place.Goals as goal
 
 pub returns-clause-value : goal.returns-clause-value
-returns-clause-value c = c.unwrap_or.ensures ∙ rw (c.place_from.ensures) (position_or_end (λ u. nat_le c.args.priority (slice_index c.args.by.now u)) c.args.threads.now)
+returns-clause-value c =
+    c.unwrap_or.ensures ∙ rw (c.place_from.ensures) (position_or_end (λ u. nat_le c.args.priority (slice_index c.args.by.now u)) c.args.threads.now)
