@@ -16,19 +16,19 @@ text_at-outside : (g : Memory) (m a n : ℕ) → IsByteAt g m a None → text_at
 unfolding text_at
 text_at-outside g m a n outside =
     cond_both (may g m Load a 1) (Some (byte g a)) None (λ o. None ≡ o → text_at g m a (suc n) ≡ Err invalid_memory) (λ yes same. cc)
-        (λ no same. rw no refl) outside
+    (λ no same. rw no refl) outside
 
 text_at-end : (g : Memory) (m a n : ℕ) → IsByteAt g m a (Some 0) → text_at g m a (suc n) ≡ Ok []
 unfolding text_at
 text_at-end g m a n loaded =
     cond_both (may g m Load a 1) (Some (byte g a)) None (λ o. Some 0 ≡ o → text_at g m a (suc n) ≡ Ok [])
-        (λ yes same. let ends : byte g a ≡ 0 = cc in rw (yes, eq-eqb (byte g a) 0 ends) refl) (λ no same. cc) loaded
+    (λ yes same. let ends : byte g a ≡ 0 = cc in rw (yes, eq-eqb (byte g a) 0 ends) refl) (λ no same. cc) loaded
 
 text_at-more : (g : Memory) (m a n b : ℕ) → IsByteAt g m a (Some b) → b ≢ 0 → text_at g m a (suc n) ≡ before b (text_at g m (a + 1) n)
 unfolding text_at
 text_at-more g m a n b loaded more =
     cond_both (may g m Load a 1) (Some (byte g a)) None (λ o. Some b ≡ o → text_at g m a (suc n) ≡ before b (text_at g m (a + 1) n))
-        (λ yes same. let is_b : byte g a ≡ b = cc in rw (yes, is_b, ne_eqb b 0 more) refl) (λ no same. cc) loaded
+    (λ yes same. let is_b : byte g a ≡ b = cc in rw (yes, is_b, ne_eqb b 0 more) refl) (λ no same. cc) loaded
 
 -- bytes before a text, where there is one
 abbrev pub before_all : List ℕ → Result (List ℕ) ℕ → Result (List ℕ) ℕ

@@ -29,7 +29,7 @@ allocate_keeps t m k (Some o) first table =
 free_keeps : (t : List Slot) (o : ℕ) → IsTable t → IsTable (after_free t o)
 free_keeps t o table =
     IsTable-with_slot t o (free_slot (slot t o).generation) table
-        (record { generation = (is_slot t o table).generation; kind = refl; used = λ impossible. absurd (cc) })
+    (record { generation = (is_slot t o table).generation; kind = refl; used = λ impossible. absurd (cc) })
 
 pub calls_keep_the_table : CallsKeepTheTable
 calls_keep_the_table t (Allocate m k) table may = allocate_keeps t m k (position is_usable t) refl table
@@ -86,7 +86,7 @@ call_moves : (t : List Slot) (c : Call) → MayCall t c → (p : ℕ) → NotLow
 call_moves t (Allocate m k) may p = allocate_moves t m k (position is_usable t) refl p
 call_moves t (Deallocate m r) may p =
     cond_both (named t r (is_own_empty m)) (after_free t (slot_of r)) t (λ (u : List Slot). NotLower (slot t p) (slot u p)) (λ _. free_moves t (slot_of r) p)
-        (λ _. not_lower (slot t p))
+    (λ _. not_lower (slot t p))
 call_moves t (FreeSlot o) may p = free_moves t o p
 call_moves t (MakeLive o name) may p =
     let alive = alive_in_use (slot t o) may in one_moves t o _ (omega arith) p

@@ -20,8 +20,8 @@ each_moves R same t o s here p =
 pub is_slot : (t : List Slot) (o : ℕ) → IsTable t → IsSlot (slot t o)
 is_slot t o table =
     ⊎_elim (λ inside. table.each o (free_slot 0) inside)
-        (λ beyond. subst IsSlot (sym (get_or_past t o (free_slot 0) beyond)) (record { generation = lit≤ tt; kind = refl; used = λ impossible. absurd (cc) }))
-        (cases_lt o (length t))
+    (λ beyond. subst IsSlot (sym (get_or_past t o (free_slot 0) beyond)) (record { generation = lit≤ tt; kind = refl; used = λ impossible. absurd (cc) }))
+    (cases_lt o (length t))
 
 pub IsTable-with_slot : (t : List Slot) (o : ℕ) (s : Slot) → IsTable t → IsSlot s → IsTable (with_slot t o s)
 IsTable-with_slot t o s table good = record {

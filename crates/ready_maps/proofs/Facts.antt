@@ -122,7 +122,7 @@ unordered_laid s t laid other = record {
 fewer_held_laid : (s : Sched) (t : ℕ) → IsLaidOut s → IsLaidOut (record s { held = without t s.held })
 fewer_held_laid s t laid =
     held_laid s (without t s.held) laid (AllPairs-filter (λ k l. pr s k < pr s l) (λ u. not (u == t)) s.held laid.holders_climb)
-        (All-filter (λ u. not (u == t)) (λ k. first_at s (pr s k) ≡ Some k) s.held laid.holders_are_first)
+    (All-filter (λ u. not (u == t)) (λ k. first_at s (pr s k) ≡ Some k) s.held laid.holders_are_first)
 
 pub taken_laid : (s : Sched) (t : ℕ) → IsLaidOut s → IsLaidOut (taken_out s t)
 taken_laid s t laid = unordered_laid (record s { held = without t s.held }) t (fewer_held_laid s t laid) (without_is_not t s.held)
@@ -157,8 +157,8 @@ placed_first_laid s t laid low new other = record {
 pub holding_laid : (s : Sched) (t : ℕ) → IsLaidOut s → first_at s (pr s t) ≡ Some t → All (λ k. pr s k ≢ pr s t) s.held → IsLaidOut (holding s t)
 holding_laid s t laid first other =
     cond_both (nat_lt (th s t) (pr s t)) (record s { held = first_in (pr s) t s.held }) s IsLaidOut
-        (λ _. held_laid s (first_in (pr s) t s.held) laid (climbing-first_in (pr s) t s.held laid.holders_climb other)
-        (All-first_in (λ k. first_at s (pr s k) ≡ Some k) (pr s) t s.held first laid.holders_are_first)) (λ _. laid)
+    (λ _. held_laid s (first_in (pr s) t s.held) laid (climbing-first_in (pr s) t s.held laid.holders_climb other)
+    (All-first_in (λ k. first_at s (pr s k) ≡ Some k) (pr s) t s.held first laid.holders_are_first)) (λ _. laid)
 
 -- b runs in the place of a thread r of a higher priority that joins the holders
 gives_way : (s : Sched) (r b : ℕ) → IsLaidOut s → first_at s (pr s r) ≡ Some r → All (λ k. pr s r < pr s k) s.held → pr s b < pr s r → MayRun s b
@@ -166,10 +166,14 @@ gives_way : (s : Sched) (r b : ℕ) → IsLaidOut s → first_at s (pr s r) ≡ 
 gives_way s r b laid first below less may =
     let joined = holding_laid s r laid first (λ k d within same. let over = below k d within in omega arith) in
     cond_both (nat_lt (th s r) (pr s r)) (record s { held = first_in (pr s) r s.held }) s (λ now. IsLaidOut now → IsKept (record now { run = Some b }))
-        (λ _ held. record {
+    (λ _ held. record {
       laid_out = same_lists_laid (record s { held = first_in (pr s) r s.held }) (Some b) held;
-      rightly = record { is_first = may.is_first; below_holders = All-first_in (λ k. pr s b < pr s k)
-          (pr s) r s.held less may.below_holders; others = may.others };
+      rightly = record {
+        is_first = may.is_first;
+        below_holders = All-first_in (λ k. pr s b < pr s k)
+            (pr s) r s.held less may.below_holders;
+        others = may.others;
+      };
     }) (λ _ held. record {
       laid_out = same_lists_laid s (Some b) held;
       rightly = record { is_first = may.is_first; below_holders = may.below_holders; others = may.others };
@@ -227,8 +231,11 @@ readied_keeps s t kept low unready =
           (record (holding (placed_last s t) r) { run = Some t }) (placed_last s t) IsKept
           (λ below. let less = ltb-true (pr s t) (th s r) below in gives_way (placed_last s t) r t placed
           (find-last_in (pr s) t (pr s r) r s.order may.is_first) may.below_holders (omega arith) (readied_before s t r laid may less))
-          (λ upto. record { laid_out = placed; rightly = subst (RunsRightly (placed_last s t)) (sym running)
-          (readied_behind s t r may (ltb-false (pr s t) (th s r) upto)) })
+          (λ upto. record {
+            laid_out = placed;
+            rightly = subst (RunsRightly (placed_last s t)) (sym running)
+                (readied_behind s t r may (ltb-false (pr s t) (th s r) upto));
+          })
     ] refl
 
 -- Unready
@@ -261,7 +268,7 @@ taken_keeps s t kept other = record {
 pub unreadied_keeps : (s : Sched) (t : ℕ) → IsKept s → IsKept (unreadied s t)
 unreadied_keeps s t kept =
     cond_both (runs s t) (pick (taken_out s t)) (taken_out s t) IsKept (λ _. pick_keeps (taken_out s t) (taken_laid s t kept.laid_out))
-        (λ other. taken_keeps s t kept other)
+    (λ other. taken_keeps s t kept other)
 
 -- Yield
 pub runner_is_thread : (s : Sched) (r : ℕ) → IsKept s → s.run ≡ Some r → r < 256
@@ -276,7 +283,7 @@ runner_unordered s r kept running =
 pub yielded_laid : (s : Sched) (r : ℕ) → IsKept s → s.run ≡ Some r → IsLaidOut (placed_last (record s { order = without r s.order }) r)
 yielded_laid s r kept running =
     placed_last_laid (record s { order = without r s.order }) r (runner_unordered s r kept running) (runner_is_thread s r kept running)
-        (without_is_not r s.order)
+    (without_is_not r s.order)
 
 pub yielded_keeps : (s : Sched) → IsKept s → IsKept (yielded s)
 yielded_keeps s kept = elim s.run as (λ o. s.run ≡ o → IsKept (yielded_by s o)) [
@@ -363,7 +370,7 @@ pub threshold_set_keeps : (s : Sched) (t threshold : ℕ) → IsKept s → t < 2
 threshold_set_keeps s t threshold kept low upto =
     let now = with_threshold s t threshold in
     cond_both (runs s t) (giving_way now t (best now)) (released now t) IsKept (threshold_runner_keeps s t threshold kept low upto)
-        (threshold_other_keeps s t threshold kept low upto)
+    (threshold_other_keeps s t threshold kept low upto)
 
 -- SetPr
 pr_own : (s : Sched) (t priority threshold : ℕ) → IsLaidOut s → t < 256 → pr (with_numbers s t priority threshold) t ≡ priority
@@ -379,8 +386,8 @@ first_stays s t priority threshold k unready first =
     let now = with_numbers s t priority threshold in
     let same = pr_other s t priority threshold k (find_has (λ u. u ≢ t) (λ u. pr s u == pr s k) s.order k unready first) in
     subst (λ p. first_at now p ≡ Some k) (sym same)
-        (find_agree (λ u. pr now u == pr s k) (λ u. pr s u == pr s k) s.order
-        (λ j d within. ap (λ p. p == pr s k) (pr_other s t priority threshold _ (unready j d within))) ∙ first)
+    (find_agree (λ u. pr now u == pr s k) (λ u. pr s u == pr s k) s.order
+    (λ j d within. ap (λ p. p == pr s k) (pr_other s t priority threshold _ (unready j d within))) ∙ first)
 
 numbers_laid : (s : Sched) (t priority threshold : ℕ) → IsLaidOut s → All (λ u. u ≢ t) s.order → t < 256 → threshold ≤ priority → priority < s.levels
     → IsLaidOut (with_numbers s t priority threshold)
@@ -435,8 +442,8 @@ no_holder_at s t none = λ k d within. eqb-false _ _ (any_not (λ u. pr s u == p
 pub placed_again_laid : (s : Sched) (t : ℕ) → IsLaidOut s → t < 256 → All (λ u. u ≢ t) s.order → IsLaidOut (placed_again s t)
 placed_again_laid s t laid low new =
     cond_both (list_any (λ k. pr s k == pr s t) s.held) (placed_last s t) (holding (placed_first s t) t) IsLaidOut (λ _. placed_last_laid s t laid low new)
-        (λ none. let other = no_holder_at s t none in holding_laid (placed_first s t) t (placed_first_laid s t laid low new other)
-        (first_in_is_first (pr s) t s.order) other)
+    (λ none. let other = no_holder_at s t none in holding_laid (placed_first s t) t (placed_first_laid s t laid low new other)
+    (first_in_is_first (pr s) t s.order) other)
 
 -- a thread that is taken out gets other numbers
 pub renumbered_laid : (s : Sched) (t priority threshold : ℕ) → IsLaidOut s → t < 256 → threshold ≤ priority → priority < s.levels
@@ -461,13 +468,13 @@ pub priority_runner_keeps : (s : Sched) (t priority threshold : ℕ) → IsKept 
 priority_runner_keeps s t priority threshold kept low upto level =
     let now = with_numbers (taken_out s t) t priority threshold in
     pick_keeps (placed_again now t)
-        (placed_again_laid now t (renumbered_laid s t priority threshold kept.laid_out low upto level) low (without_is_not t s.order))
+    (placed_again_laid now t (renumbered_laid s t priority threshold kept.laid_out low upto level) low (without_is_not t s.order))
 
 pub priority_ready_keeps : (s : Sched) (t priority threshold : ℕ) → IsKept s → t < 256 → threshold ≤ priority → priority < s.levels → runs s t ≡ false
     → IsKept (readied (with_numbers (taken_out s t) t priority threshold) t)
 priority_ready_keeps s t priority threshold kept low upto level other =
     readied_keeps (with_numbers (taken_out s t) t priority threshold) t (renumbered_keeps s t priority threshold kept low upto level other) low
-        (renumbered_unready s t priority threshold)
+    (renumbered_unready s t priority threshold)
 
 pub priority_other_keeps : (s : Sched) (t priority threshold : ℕ) → IsKept s → t < 256 → threshold ≤ priority → priority < s.levels → is_ready s t ≡ false
     → IsKept (with_numbers s t priority threshold)
@@ -480,20 +487,20 @@ priority_set_keeps s t priority threshold kept low upto level =
     cond_both (runs s t) (pick (placed_again now t)) (if is_ready s t then readied now t else with_numbers s t priority threshold) IsKept
     (λ _. priority_runner_keeps s t priority threshold kept low upto level)
     (λ other. cond_both (is_ready s t) (readied now t) (with_numbers s t priority threshold) IsKept
-        (λ _. priority_ready_keeps s t priority threshold kept low upto level other) (priority_other_keeps s t priority threshold kept low upto level))
+    (λ _. priority_ready_keeps s t priority threshold kept low upto level other) (priority_other_keeps s t priority threshold kept low upto level))
 
 -- which case of SetPr it is
 pub priority_runner_is : (s : Sched) (t priority threshold : ℕ) → runs s t ≡ true
     → pick (placed_again (with_numbers (taken_out s t) t priority threshold) t) ≡ priority_set s t priority threshold
 priority_runner_is s t priority threshold it_runs =
     sym (cond-true (runs s t) _ (if is_ready s t then readied (with_numbers (taken_out s t) t priority threshold) t else with_numbers s t priority threshold)
-        it_runs)
+    it_runs)
 
 pub priority_ready_is : (s : Sched) (t priority threshold : ℕ) → runs s t ≡ false → is_ready s t ≡ true
     → readied (with_numbers (taken_out s t) t priority threshold) t ≡ priority_set s t priority threshold
 priority_ready_is s t priority threshold other ready =
     sym (cond-false (runs s t) (pick (placed_again (with_numbers (taken_out s t) t priority threshold) t)) _ other
-        ∙ cond-true (is_ready s t) _ (with_numbers s t priority threshold) ready)
+    ∙ cond-true (is_ready s t) _ (with_numbers s t priority threshold) ready)
 
 -- one move, and every list of them
 pub moved_keeps : (s : Sched) (m : Move) → IsKept s → MayMove s m → IsKept (moved s m)

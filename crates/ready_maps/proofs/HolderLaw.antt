@@ -26,7 +26,7 @@ All-has : (P : ℕ → Type 0) (u : ℕ) (xs : List ℕ) → All P xs → has u 
 All-has P u [] each member = absurd (false≢true member)
 All-has P u (x ∷ xs) each member =
     ⊎_elim (λ here. subst P (eqb-true x u here) (All-head P x xs each)) (λ later. All-has P u xs (All-tail P x xs each) later)
-        (or_cases (x == u) (has u xs) member)
+    (or_cases (x == u) (has u xs) member)
 
 -- the first element and each later one
 AllPairs-head : (R : ℕ → ℕ → Type 0) (x : ℕ) (xs : List ℕ) → AllPairs R (x ∷ xs) → All (R x) xs
@@ -71,7 +71,7 @@ joins_alone : (s : Sched) (r k : ℕ) → is_held s k ≡ false → is_held (hol
 joins_alone s r k free =
     cond_both (nat_lt (th s r) (pr s r)) (record s { held = first_in (pr s) r s.held }) s (λ after. is_held after k ≡ true → k ≡ r)
     (λ test held. ⊎_elim (λ here. eqb-true k r here) (λ before. absurd (both_ways (has k s.held) free before))
-        (or_cases (k == r) (has k s.held) (sym (has-first_in (pr s) r k s.held) ∙ held)))
+    (or_cases (k == r) (has k s.held) (sym (has-first_in (pr s) r k s.held) ∙ held)))
     (λ test held. absurd (both_ways (has k s.held) free held))
 
 joins_giving : (s : Sched) (r b k : ℕ) → pr s b < th s r → All (λ j. pr s r < pr s j) s.held → is_held s k ≡ false
@@ -146,15 +146,18 @@ stays_picked_before s h k (j ∷ js) same low climb each =
     let later : has k js ≡ true → pr s j < th s k = λ member. first (All-has (λ i. pr s j < pr s i) k js behind member) in
     let rest : drop 1 s.held ≡ js = ap (drop 1) same in
     cond_both (nat_le (th s j) (pr s h)) (record s { run = Some j; held = drop 1 s.held }) (record s { run = Some h }) (StaysWell k)
-    (λ test held. record
-        { is_held = held; runner = later (subst (λ xs. has k xs ≡ true) rest held); holders = All-drop (IsBefore s k) 1 s.held
-        (All-same (IsBefore s k) s.held (j ∷ js) same each) })
+    (λ test held. record {
+      is_held = held;
+      runner = later (subst (λ xs. has k xs ≡ true) rest held);
+      holders = All-drop (IsBefore s k) 1 s.held
+          (All-same (IsBefore s k) s.held (j ∷ js) same each);
+    })
     (λ test held.
     let urgent : pr s h < th s j = leb-false (th s j) (pr s h) test in
     let bound = low j in
     let member : ((j == k) || has k js) ≡ true = subst (λ xs. has k xs ≡ true) same held in
     let lower : pr s h < th s k = ⊎_elim (λ here. subst (λ i. pr s h < th s i) (eqb-true j k here) urgent) (λ behind_j. let own = later behind_j in omega arith)
-        (or_cases (j == k) (has k js) member) in
+    (or_cases (j == k) (has k js) member) in
     record { is_held = held; runner = lower; holders = All-same (IsBefore s k) s.held (j ∷ js) same each })
 
 stays_picked : (s : Sched) (k : ℕ) (o : Option ℕ) → ((u : ℕ) → th s u ≤ pr s u) → AllPairs (λ i j. pr s i < pr s j) s.held → All (IsBefore s k) s.held

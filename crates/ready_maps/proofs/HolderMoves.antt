@@ -28,13 +28,13 @@ runs_on s r here off less = absurd (both_ways (runs s r) off here)
 holds_challenged : (s : Sched) (t r : ℕ) → s.run ≡ Some r → Holds r (challenged s t (Some r))
 holds_challenged s t r same =
     cond_both (nat_lt (pr s t) (th s r)) (record (holding s r) { run = Some t }) s (Holds r) (λ test off. held_by_holding s r)
-        (λ test. runs_on s r (runs_since s r same))
+    (λ test. runs_on s r (runs_since s r same))
 
 holds_giving_way : (s : Sched) (r : ℕ) (o : Option ℕ) → s.run ≡ Some r → Holds r (giving_way s r o)
 holds_giving_way s r None same = runs_on s r (runs_since s r same)
 holds_giving_way s r (Some b) same =
     cond_both (nat_lt (pr s b) (th s r)) (record (holding s r) { run = Some b }) s (Holds r) (λ test off. held_by_holding s r)
-        (λ test. runs_on s r (runs_since s r same))
+    (λ test. runs_on s r (runs_since s r same))
 
 holds_threshold_set : (s : Sched) (t threshold r : ℕ) → s.run ≡ Some r → Holds r (moved s (SetThreshold t threshold))
 holds_threshold_set s t threshold r same =
@@ -89,7 +89,7 @@ leaves_picked_before s h k (j ∷ js) same held =
     let rest : drop 1 s.held ≡ js = ap (drop 1) same in
     cond_both (nat_le (th s j) (pr s h)) (record s { run = Some j; held = drop 1 s.held }) (record s { run = Some h }) (Leaves k)
     (λ test gone ready. ⊎_elim (λ here. here) (λ later. absurd (both_ways (has k js) (subst (λ xs. has k xs ≡ false) rest gone) later))
-        (or_cases (j == k) (has k js) member))
+    (or_cases (j == k) (has k js) member))
     (λ test. still_held (record s { run = Some h }) k held)
 
 leaves_picked : (s : Sched) (k : ℕ) (o : Option ℕ) → is_held s k ≡ true → Leaves k (picked s o)

@@ -174,7 +174,7 @@ pigeonhole (suc n) xs below distinct =
     let kept : All (λ t. t < suc n) (without n xs) = All-filter (λ u. not (u == n)) (λ t. t < suc n) xs below in
     let other = without_is_not n xs in
     let fewer = pigeonhole n (without n xs) (λ k d within. let low = kept k d within in let apart = other k d within in omega arith)
-        (AllPairs-filter (λ u v. v ≢ u) (λ u. not (u == n)) xs distinct) in
+    (AllPairs-filter (λ u v. v ≢ u) (λ u. not (u == n)) xs distinct) in
     let more = length-without n xs distinct in
     omega arith
 
@@ -188,19 +188,19 @@ room t xs low below distinct other =
 pub All-last_in : (P : ℕ → Type 0) (by : ℕ → ℕ) (t : ℕ) (xs : List ℕ) → P t → All P xs → All P (last_in by t xs)
 All-last_in P by t xs new all =
     All-append P (filter (λ u. nat_le (by u) (by t)) xs) (t ∷ filter (λ u. nat_lt (by t) (by u)) xs) (All-filter (λ u. nat_le (by u) (by t)) P xs all)
-        (All-cons P t (filter (λ u. nat_lt (by t) (by u)) xs) new (All-filter (λ u. nat_lt (by t) (by u)) P xs all))
+    (All-cons P t (filter (λ u. nat_lt (by t) (by u)) xs) new (All-filter (λ u. nat_lt (by t) (by u)) P xs all))
 
 pub All-first_in : (P : ℕ → Type 0) (by : ℕ → ℕ) (t : ℕ) (xs : List ℕ) → P t → All P xs → All P (first_in by t xs)
 All-first_in P by t xs new all =
     All-append P (filter (λ u. nat_lt (by u) (by t)) xs) (t ∷ filter (λ u. nat_le (by t) (by u)) xs) (All-filter (λ u. nat_lt (by u) (by t)) P xs all)
-        (All-cons P t (filter (λ u. nat_le (by t) (by u)) xs) new (All-filter (λ u. nat_le (by t) (by u)) P xs all))
+    (All-cons P t (filter (λ u. nat_le (by t) (by u)) xs) new (All-filter (λ u. nat_le (by t) (by u)) P xs all))
 
 -- R holds in pairs between two parts and one in the midst
 between : (R : ℕ → ℕ → Type 0) (t : ℕ) (xs ys : List ℕ) → AllPairs R xs → AllPairs R ys → All (λ x. R x t) xs → All (R t) ys
     → ((x y : ℕ) → R x t → R t y → R x y) → AllPairs R (xs ++ t ∷ ys)
 between R t xs ys front back below above through =
     AllPairs-append R xs (t ∷ ys) front (AllPairs-cons R t ys above back)
-        (λ k d within. All-cons (R _) t ys (below k d within) (λ j e inside. through _ _ (below k d within) (above j e inside)))
+    (λ k d within. All-cons (R _) t ys (below k d within) (λ j e inside. through _ _ (below k d within) (above j e inside)))
 
 low : (by : ℕ → ℕ) (t : ℕ) (xs : List ℕ) → All (λ u. by u ≤ by t) (filter (λ u. nat_le (by u) (by t)) xs)
 low by t xs = λ k d within. leb-true _ _ (filter_passes (λ u. nat_le (by u) (by t)) xs k d within)
@@ -218,45 +218,45 @@ higher by t xs = λ k d within. leb-true _ _ (filter_passes (λ u. nat_le (by t)
 pub sorted-last_in : (by : ℕ → ℕ) (t : ℕ) (xs : List ℕ) → AllPairs (λ u v. by u ≤ by v) xs → AllPairs (λ u v. by u ≤ by v) (last_in by t xs)
 sorted-last_in by t xs sorted =
     between (λ u v. by u ≤ by v) t (filter (λ u. nat_le (by u) (by t)) xs) (filter (λ u. nat_lt (by t) (by u)) xs)
-        (AllPairs-filter (λ u v. by u ≤ by v) (λ u. nat_le (by u) (by t)) xs sorted)
-        (AllPairs-filter (λ u v. by u ≤ by v) (λ u. nat_lt (by t) (by u)) xs sorted) (low by t xs)
-        (λ k d within. let above = high by t xs k d within in omega arith) (λ x y below above. omega arith)
+    (AllPairs-filter (λ u v. by u ≤ by v) (λ u. nat_le (by u) (by t)) xs sorted)
+    (AllPairs-filter (λ u v. by u ≤ by v) (λ u. nat_lt (by t) (by u)) xs sorted) (low by t xs)
+    (λ k d within. let above = high by t xs k d within in omega arith) (λ x y below above. omega arith)
 
 pub sorted-first_in : (by : ℕ → ℕ) (t : ℕ) (xs : List ℕ) → AllPairs (λ u v. by u ≤ by v) xs → AllPairs (λ u v. by u ≤ by v) (first_in by t xs)
 sorted-first_in by t xs sorted =
     between (λ u v. by u ≤ by v) t (filter (λ u. nat_lt (by u) (by t)) xs) (filter (λ u. nat_le (by t) (by u)) xs)
-        (AllPairs-filter (λ u v. by u ≤ by v) (λ u. nat_lt (by u) (by t)) xs sorted)
-        (AllPairs-filter (λ u v. by u ≤ by v) (λ u. nat_le (by t) (by u)) xs sorted) (λ k d within. let below = lower by t xs k d within in omega arith)
-        (higher by t xs) (λ x y below above. omega arith)
+    (AllPairs-filter (λ u v. by u ≤ by v) (λ u. nat_lt (by u) (by t)) xs sorted)
+    (AllPairs-filter (λ u v. by u ≤ by v) (λ u. nat_le (by t) (by u)) xs sorted) (λ k d within. let below = lower by t xs k d within in omega arith)
+    (higher by t xs) (λ x y below above. omega arith)
 
 -- a new priority joins those that climb
 pub climbing-first_in : (by : ℕ → ℕ) (t : ℕ) (xs : List ℕ) → AllPairs (λ u v. by u < by v) xs → All (λ u. by u ≢ by t) xs
     → AllPairs (λ u v. by u < by v) (first_in by t xs)
 climbing-first_in by t xs climbs new =
     between (λ u v. by u < by v) t (filter (λ u. nat_lt (by u) (by t)) xs) (filter (λ u. nat_le (by t) (by u)) xs)
-        (AllPairs-filter (λ u v. by u < by v) (λ u. nat_lt (by u) (by t)) xs climbs)
-        (AllPairs-filter (λ u v. by u < by v) (λ u. nat_le (by t) (by u)) xs climbs) (lower by t xs)
-        (λ k d within. let from = higher by t xs k d within in let apart = All-filter (λ u. nat_le (by t) (by u))
-        (λ u. by u ≢ by t) xs new k d within in omega arith) (λ x y below above. omega arith)
+    (AllPairs-filter (λ u v. by u < by v) (λ u. nat_lt (by u) (by t)) xs climbs)
+    (AllPairs-filter (λ u v. by u < by v) (λ u. nat_le (by t) (by u)) xs climbs) (lower by t xs)
+    (λ k d within. let from = higher by t xs k d within in let apart = All-filter (λ u. nat_le (by t) (by u))
+    (λ u. by u ≢ by t) xs new k d within in omega arith) (λ x y below above. omega arith)
 
 -- distinct threads stay so with one more
 apart : (t : ℕ) (p q : ℕ → Bool) (xs : List ℕ) → AllPairs (λ u v. v ≢ u) xs → All (λ u. u ≢ t) xs → ((u v : ℕ) → p u ≡ true → q v ≡ true → v ≢ u)
     → AllPairs (λ u v. v ≢ u) (filter p xs ++ t ∷ filter q xs)
 apart t p q xs distinct new parted =
     AllPairs-append (λ u v. v ≢ u) (filter p xs) (t ∷ filter q xs) (AllPairs-filter (λ u v. v ≢ u) p xs distinct)
-        (AllPairs-cons (λ u v. v ≢ u) t (filter q xs) (All-filter q (λ u. u ≢ t) xs new) (AllPairs-filter (λ u v. v ≢ u) q xs distinct))
-        (λ k d within. All-cons (λ v. v ≢ slice_index_or (filter p xs) k d) t (filter q xs) (λ same. All-filter p (λ u. u ≢ t) xs new k d within (sym same))
-        (λ j e inside. parted _ _ (filter_passes p xs k d within) (filter_passes q xs j e inside)))
+    (AllPairs-cons (λ u v. v ≢ u) t (filter q xs) (All-filter q (λ u. u ≢ t) xs new) (AllPairs-filter (λ u v. v ≢ u) q xs distinct))
+    (λ k d within. All-cons (λ v. v ≢ slice_index_or (filter p xs) k d) t (filter q xs) (λ same. All-filter p (λ u. u ≢ t) xs new k d within (sym same))
+    (λ j e inside. parted _ _ (filter_passes p xs k d within) (filter_passes q xs j e inside)))
 
 pub distinct-last_in : (by : ℕ → ℕ) (t : ℕ) (xs : List ℕ) → AllPairs (λ u v. v ≢ u) xs → All (λ u. u ≢ t) xs → AllPairs (λ u v. v ≢ u) (last_in by t xs)
 distinct-last_in by t xs distinct new =
     apart t (λ u. nat_le (by u) (by t)) (λ u. nat_lt (by t) (by u)) xs distinct new
-        (λ u v below above same. let under = leb-true (by u) (by t) below in let over = ltb-true (by t) (by v) above in let equal = ap by same in omega arith)
+    (λ u v below above same. let under = leb-true (by u) (by t) below in let over = ltb-true (by t) (by v) above in let equal = ap by same in omega arith)
 
 pub distinct-first_in : (by : ℕ → ℕ) (t : ℕ) (xs : List ℕ) → AllPairs (λ u v. v ≢ u) xs → All (λ u. u ≢ t) xs → AllPairs (λ u v. v ≢ u) (first_in by t xs)
 distinct-first_in by t xs distinct new =
     apart t (λ u. nat_lt (by u) (by t)) (λ u. nat_le (by t) (by u)) xs distinct new
-        (λ u v below above same. let under = ltb-true (by u) (by t) below in let over = leb-true (by t) (by v) above in let equal = ap by same in omega arith)
+    (λ u v below above same. let under = ltb-true (by u) (by t) below in let over = leb-true (by t) (by v) above in let equal = ap by same in omega arith)
 
 -- who is first of a priority once one is put in
 
@@ -267,11 +267,11 @@ find-last_in by t p k xs found =
     let high_part = filter (λ u. nat_lt (by t) (by u)) xs in
     let at_p = eqb-true (by k) p (find_passes (λ u. by u == p) xs k found) in
     ⊎_elim (λ above. find_right (λ u. by u == p) low_part (t ∷ high_part)
-        (find_none (λ u. by u == p) low_part (λ j d within. ne_eqb _ _ (λ same. let under = low by t xs j d within in absurd (omega arith))))
-        ∙ rw (ne_eqb (by t) p (λ same. absurd (omega arith)))
-        (find-filter (λ u. by u == p) (λ u. nat_lt (by t) (by u)) xs k found (lt-ltb (by t) (by k) (omega arith))))
+    (find_none (λ u. by u == p) low_part (λ j d within. ne_eqb _ _ (λ same. let under = low by t xs j d within in absurd (omega arith))))
+    ∙ rw (ne_eqb (by t) p (λ same. absurd (omega arith)))
+    (find-filter (λ u. by u == p) (λ u. nat_lt (by t) (by u)) xs k found (lt-ltb (by t) (by k) (omega arith))))
     (λ upto. find_left (λ u. by u == p) low_part (t ∷ high_part) k
-        (find-filter (λ u. by u == p) (λ u. nat_le (by u) (by t)) xs k found (le-leb (by k) (by t) (omega arith))))
+    (find-filter (λ u. by u == p) (λ u. nat_le (by u) (by t)) xs k found (le-leb (by k) (by t) (omega arith))))
     (cases_lt (by t) p)
 
 -- and before others of another priority
@@ -281,10 +281,10 @@ find-first_in by t p k xs other found =
     let high_part = filter (λ u. nat_le (by t) (by u)) xs in
     let at_p = eqb-true (by k) p (find_passes (λ u. by u == p) xs k found) in
     ⊎_elim (λ above. find_right (λ u. by u == p) low_part (t ∷ high_part)
-        (find_none (λ u. by u == p) low_part (λ j d within. ne_eqb _ _ (λ same. let under = lower by t xs j d within in absurd (omega arith))))
-        ∙ rw (ne_eqb (by t) p other) (find-filter (λ u. by u == p) (λ u. nat_le (by t) (by u)) xs k found (le-leb (by t) (by k) (omega arith))))
+    (find_none (λ u. by u == p) low_part (λ j d within. ne_eqb _ _ (λ same. let under = lower by t xs j d within in absurd (omega arith))))
+    ∙ rw (ne_eqb (by t) p other) (find-filter (λ u. by u == p) (λ u. nat_le (by t) (by u)) xs k found (le-leb (by t) (by k) (omega arith))))
     (λ upto. find_left (λ u. by u == p) low_part (t ∷ high_part) k
-        (find-filter (λ u. by u == p) (λ u. nat_lt (by u) (by t)) xs k found (lt-ltb (by k) (by t) (omega arith))))
+    (find-filter (λ u. by u == p) (λ u. nat_lt (by u) (by t)) xs k found (lt-ltb (by k) (by t) (omega arith))))
     (cases_lt (by t) p)
 
 -- one that is put in first of its priority is it, and so is one put in last where there was none
@@ -292,15 +292,15 @@ pub first_in_is_first : (by : ℕ → ℕ) (t : ℕ) (xs : List ℕ) → find (�
 first_in_is_first by t xs =
     let low_part = filter (λ u. nat_lt (by u) (by t)) xs in
     find_right (λ u. by u == by t) low_part (t ∷ filter (λ u. nat_le (by t) (by u)) xs)
-        (find_none (λ u. by u == by t) low_part (λ j d within. ne_eqb _ _ (λ same. let under = lower by t xs j d within in absurd (omega arith))))
-        ∙ rw (eq-eqb (by t) (by t) refl) refl
+    (find_none (λ u. by u == by t) low_part (λ j d within. ne_eqb _ _ (λ same. let under = lower by t xs j d within in absurd (omega arith))))
+    ∙ rw (eq-eqb (by t) (by t) refl) refl
 
 pub last_in_is_first : (by : ℕ → ℕ) (t : ℕ) (xs : List ℕ) → All (λ u. by u ≢ by t) xs → find (λ u. by u == by t) (last_in by t xs) ≡ Some t
 last_in_is_first by t xs none =
     let low_part = filter (λ u. nat_le (by u) (by t)) xs in
     find_right (λ u. by u == by t) low_part (t ∷ filter (λ u. nat_lt (by t) (by u)) xs)
-        (find_none (λ u. by u == by t) low_part (λ j d within. ne_eqb _ _ (All-filter (λ u. nat_le (by u) (by t)) (λ u. by u ≢ by t) xs none j d within)))
-        ∙ rw (eq-eqb (by t) (by t) refl) refl
+    (find_none (λ u. by u == by t) low_part (λ j d within. ne_eqb _ _ (All-filter (λ u. nat_le (by u) (by t)) (λ u. by u ≢ by t) xs none j d within)))
+    ∙ rw (eq-eqb (by t) (by t) refl) refl
 
 -- one more stands in the list
 pub length-last_in : (by : ℕ → ℕ) (t : ℕ) (xs : List ℕ) → length (last_in by t xs) ≡ length xs + 1
@@ -319,4 +319,4 @@ pub all_last_more : (by : ℕ → ℕ) (xs ts : List ℕ) (i t : ℕ) → i < le
 all_last_more by xs ts i t within here =
     let put = λ (us : List ℕ) (u : ℕ). last_in by u us in
     ap (fold put xs) (take_more ts i t within)
-        ∙ (fold_push put xs (take i ts) (slice_index_or ts i t) ∙ ap (λ u. last_in by u (fold put xs (take i ts))) (sym here))
+    ∙ (fold_push put xs (take i ts) (slice_index_or ts i t) ∙ ap (λ u. last_in by u (fold put xs (take i ts))) (sym here))

@@ -105,7 +105,7 @@ has-placed_again s t u =
     let last = has-last_in (pr s) t u s.order in
     let first = ap (has u) (order-holding (placed_first s t) t) ∙ has-first_in (pr s) t u s.order in
     cond_both (list_any (λ k. pr s k == pr s t) s.held) (placed_last s t) (holding (placed_first s t) t) (λ now. is_ready now u ≡ ((u == t) || is_ready s u))
-        (λ here. last) (λ other. first)
+    (λ here. last) (λ other. first)
 
 pub priority_keeps_ready : PriorityKeepsReady
 priority_keeps_ready s t priority threshold u kept =
@@ -114,6 +114,6 @@ priority_keeps_ready s t priority threshold u kept =
     let P = λ (after : Sched). is_ready after u ≡ is_ready s u in
     cond_both (runs s t) running (cond (is_ready s t) (readied now t) (with_numbers s t priority threshold)) P
     (λ here. again t u running.order s.order (ap (has u) (order-pick (placed_again now t)) ∙ has-placed_again now t u)
-        (run_is_ready s t s.run kept.rightly (runs-Some s t here)))
+    (run_is_ready s t s.run kept.rightly (runs-Some s t here)))
     (λ other. cond_both (is_ready s t) (readied now t) (with_numbers s t priority threshold) P
-        (λ member. again t u (readied now t).order s.order (ready_adds_one now t u) member) (λ none. refl))
+    (λ member. again t u (readied now t).order s.order (ready_adds_one now t u) member) (λ none. refl))

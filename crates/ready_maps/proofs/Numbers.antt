@@ -37,10 +37,10 @@ priority_sets_numbers s t priority threshold =
     let now = with_numbers (taken_out s t) t priority threshold in
     let set = with_numbers s t priority threshold in
     let same = λ (after : Sched)
-        (kept : SameNumbers now after). let all : SameNumbers set after = record
-        { levels = kept.levels; priority = kept.priority; threshold = kept.threshold } in all in
+    (kept : SameNumbers now after). let all : SameNumbers set after = record
+    { levels = kept.levels; priority = kept.priority; threshold = kept.threshold } in all in
     let again = placed_again now t in
     cond_both (runs s t) (pick again) (cond (is_ready s t) (readied now t) set) (SameNumbers set)
     (λ here. same (pick again) (same_then now again (pick again) (placed_again_keeps_numbers now t) (picked_keeps_numbers again (best again))))
     (λ rests. cond_both (is_ready s t) (readied now t) set (SameNumbers set) (λ ready. same (readied now t) (ready_keeps_numbers now t))
-        (λ out. record { levels = refl; priority = refl; threshold = refl }))
+    (λ out. record { levels = refl; priority = refl; threshold = refl }))

@@ -63,6 +63,6 @@ pub threshold_law : MovesKeepTheFacts → ThresholdLaw
 threshold_law keeps s ms a b kept may arrivals runs_a runs_b other =
     let first : Follows s a s.run = subst (Follows s a) (sym runs_a) (λ ne. absurd (ne refl)) in
     let led = led_all keeps s s a ms (record { kept = kept; numbers = record { levels = refl; priority = refl; threshold = refl }; runner = first }) may
-        arrivals in
+    arrivals in
     let last : Follows s a (Some b) = subst (Follows s a) runs_b led.runner in
     last (λ same. other (sym same))

@@ -14,7 +14,7 @@ none_passes : {X : Type 0} (p : X → Bool) (xs : List X) → position p xs ≡ 
 none_passes {X} p xs none =
     let i = position_or_len p xs in
     let past = cond_both (nat_lt i (length xs)) (Some i) None (λ (o : Option ℕ). o ≡ None → length xs ≤ i) (λ found same. cc)
-        (λ missed same. ltb-false i (length xs) missed) none in
+    (λ missed same. ltb-false i (length xs) missed) none in
     λ k d below. fails_before_first p xs k d (omega arith)
 
 pub IsSound-push : (g : Memory) (r : Region) → IsSound g → length g.regions < 64 → IsInRam g.bytes r → position (meets r) g.regions ≡ None

@@ -45,4 +45,4 @@ own_all P rs list m same all = subst (All P) (sym same) (All-filter (is_for m) P
 pub own_room : (rs : List Region) (own : List (List Region)) → AreOwn rs own → length rs < 64 → All (λ list. length list < 64) own
 own_room rs own are room =
     All-from_get_or (λ list. length list < 64) own []
-        (λ m below. let same = are.each m (omega (arith, are.modules)) in let shorter = length_filter (is_for m) rs in rw same (omega arith))
+    (λ m below. let same = are.each m (omega (arith, are.modules)) in let shorter = length_filter (is_for m) rs in rw same (omega arith))

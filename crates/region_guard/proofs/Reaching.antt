@@ -25,12 +25,12 @@ in_some_region : (bytes : List ℕ) (rs : List Region) (m : ℕ) (k : Access) (a
 in_some_region bytes [] m k a n all used = absurd (false≢true used)
 in_some_region bytes (r ∷ rs) m k a n all used =
     ⊎_elim (λ here. in_region bytes r m k a n (All-head (IsInRam bytes) r rs all) here)
-        (λ later. in_some_region bytes rs m k a n (All-tail (IsInRam bytes) r rs all) later) (or_cases (lets m k a n r) (list_any (lets m k a n) rs) used)
+    (λ later. in_some_region bytes rs m k a n (All-tail (IsInRam bytes) r rs all) later) (or_cases (lets m k a n r) (list_any (lets m k a n) rs) used)
 
 pub used_is_in_ram : UsedIsInRam
 used_is_in_ram g m k a n sound some used =
     ⊎_elim (λ none. let zero_n = eqb-true n 0 none in absurd (omega arith)) (λ reached. in_some_region g.bytes g.regions m k a n sound.in_ram reached)
-        (or_cases (n == 0) (list_any (lets m k a n) g.regions) used)
+    (or_cases (n == 0) (list_any (lets m k a n) g.regions) used)
 
 part_in_region : (r : Region) (m : ℕ) (k : Access) (a n b part : ℕ) → lets m k a n r ≡ true → a ≤ b → b + part ≤ a + n → lets m k b part r ≡ true
 part_in_region r m k a n b part used low high =
@@ -40,7 +40,7 @@ part_in_region r m k a n b part used low high =
     let from = leb-true r.base a ends.0 in
     let to = leb-true (a + n) (r.base + r.size) ends.1 in
     let covered = and_from (nat_le r.base b) (nat_le (b + part) (r.base + r.size)) (le-leb r.base b (omega arith))
-        (le-leb (b + part) (r.base + r.size) (omega arith)) in
+    (le-leb (b + part) (r.base + r.size) (omega arith)) in
     and_from (covers r b part && gives r.rights k) (is_for m r) (and_from (covers r b part) (gives r.rights k) covered by_range.1) by_rights.1
 
 part_in_some_region : (rs : List Region) (m : ℕ) (k : Access) (a n b part : ℕ) → list_any (lets m k a n) rs ≡ true → a ≤ b → b + part ≤ a + n
@@ -48,11 +48,11 @@ part_in_some_region : (rs : List Region) (m : ℕ) (k : Access) (a n b part : �
 part_in_some_region [] m k a n b part used low high = used
 part_in_some_region (r ∷ rs) m k a n b part used low high =
     ⊎_elim (λ here. or_left (lets m k b part r) (list_any (lets m k b part) rs) (part_in_region r m k a n b part here low high))
-        (λ later. or_right (lets m k b part r) (list_any (lets m k b part) rs) (part_in_some_region rs m k a n b part later low high))
-        (or_cases (lets m k a n r) (list_any (lets m k a n) rs) used)
+    (λ later. or_right (lets m k b part r) (list_any (lets m k b part) rs) (part_in_some_region rs m k a n b part later low high))
+    (or_cases (lets m k a n r) (list_any (lets m k a n) rs) used)
 
 pub parts_may_be_used : PartsMayBeUsed
 parts_may_be_used g m k a n b part some used low high =
     ⊎_elim (λ none. let zero_n = eqb-true n 0 none in absurd (omega arith))
-        (λ reached. or_right (part == 0) (list_any (lets m k b part) g.regions) (part_in_some_region g.regions m k a n b part reached low high))
-        (or_cases (n == 0) (list_any (lets m k a n) g.regions) used)
+    (λ reached. or_right (part == 0) (list_any (lets m k b part) g.regions) (part_in_some_region g.regions m k a n b part reached low high))
+    (or_cases (n == 0) (list_any (lets m k a n) g.regions) used)

@@ -17,5 +17,5 @@ store_is_read_back same_number reads_back g a n v range =
     let at = a - ram_base in
     let after = stored g.bytes at n v in
     let moved = λ (k : ℕ) (below : k < n). let place : a + k - ram_base ≡ at + k = omega arith in byte_in_ram (with_number g a n v) (a + k) (omega arith)
-        ∙ ap (slice_index after) place in
+    ∙ ap (slice_index after) place in
     same_number (byte (with_number g a n v)) (slice_index after) a at n moved ∙ reads_back g.bytes at n v (omega arith)

@@ -77,7 +77,7 @@ s_fields o f3 a b z code code3 fits =
     let small = field_at-lt (2 ^ 11) z (omega arith) in
     let r = r_fields o f3 (bits n 5 7) (bits n 0 5) a b code code3 (omega arith) (omega arith, fits.0, fits.1) in
     let whole : bits (s_word o f3 a b z) 25 7 * 2 ^ 5 + bits (s_word o f3 a b z) 7 5 ≡ n = ap (λ x. x * 2 ^ 5 + bits (s_word o f3 a b z) 7 5) r.code7
-        ∙ ap (λ x. bits n 5 7 * 2 ^ 5 + x) r.destination ∙ omega arith in
+    ∙ ap (λ x. bits n 5 7 * 2 ^ 5 + x) r.destination ∙ omega arith in
     record {
       code = r.code;
       code3 = r.code3;

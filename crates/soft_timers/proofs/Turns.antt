@@ -110,7 +110,7 @@ find_other-push id other es new apart own =
     let missed : (new.id == other) ≡ false = ne_eqb new.id other (λ same. apart (sym same ∙ own)) in
     find-append (λ (e : Armed). e.id == other) es (new ∷ [])
     ∙ (ap (λ (o : Option Armed). option_or (find (λ e. e.id == other) es) o) (cond-false (new.id == other) (Some new) None missed)
-        ∙ or-None (find (λ e. e.id == other) es)) where
+    ∙ or-None (find (λ e. e.id == other) es)) where
       or-None : (o : Option Armed) → option_or o None ≡ o
       or-None None = refl
       or-None (Some e) = refl
@@ -124,7 +124,7 @@ armed_is_there w id n =
     let new : Armed = record { id = id; expiry = w.ticks + n; arming = w.armings } in
     let here : find (λ e. e.id == id) (new ∷ []) ≡ Some new = cond-true (id == id) (Some new) None (eq-eqb id id refl) in
     subst IsSome (sym (find-append (λ (e : Armed). e.id == id) w.entries (new ∷ []) ∙ ap (option_or (find (λ e. e.id == id) w.entries)) here))
-        (or-Some (find (λ e. e.id == id) w.entries) new) where
+    (or-Some (find (λ e. e.id == id) w.entries) new) where
       or-Some : (o : Option Armed) (e : Armed) → IsSome (option_or o (Some e))
       or-Some None e = refl
       or-Some (Some d) e = refl

@@ -8,5 +8,5 @@ returns-clause-items c =
     let by = slice_index c.args.by.now in
     let threads = c.args.threads.now.items in
     let place : c.first_place-at.result ≡ position_or_len (λ u. nat_le (by c.args.t) (by u)) threads = rw
-        (← c.priority_of.ensures, ← c.deref.ensures.value) c.first_place-at.ensures.value in
+    (← c.priority_of.ensures, ← c.deref.ensures.value) c.first_place-at.ensures.value in
     c.put.ensures.items ∙ rw place (inserted_first by c.args.t threads c.requires.sorted)

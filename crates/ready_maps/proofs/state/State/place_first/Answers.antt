@@ -5,7 +5,7 @@ use Rattle.ready_maps.proofs.state.State.place_first.Goals as goal
 pub put_first-requires-clause-room : goal.put_first-requires-clause-room
 put_first-requires-clause-room c =
     let few : length c.args.self.now.order < 256 = room c.args.t c.args.self.now.order
-        (omega arith) c.requires.laid_out.in_range c.requires.laid_out.each_once c.requires.unready in
+    (omega arith) c.requires.laid_out.in_range c.requires.laid_out.each_once c.requires.unready in
     grind (arith, few)
 
 pub returns : goal.returns

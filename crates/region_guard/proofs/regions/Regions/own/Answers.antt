@@ -11,4 +11,4 @@ returns c =
     let read = subst (λ m. list ≡ get_or c.self.inside.own.items m list) place c.index.ensures in
     let below = subst (λ m. m < 16) c.number.ensures.same c.number.ensures.below_16 in
     c.as_slice.ensures ∙ own_at c.self.inside.all c.self.inside.own.items c.args.m list c.self.invariant below read
-        ∙ ap (filter (is_for c.args.m)) c.self.view_is
+    ∙ ap (filter (is_for c.args.m)) c.self.view_is
