@@ -447,7 +447,7 @@ an unknown key|module[0].size|[[module]]\nname = "one"\nimage = "p1.img"\nsize =
 a key of controls and blanks|module[0].a.b..c|[[module]]\nname = "one"\nimage = "p1.img"\n"a b\\u001B\\u0007c" = 1\n
 a key that is no ASCII|module[0]...|[[module]]\nname = "one"\nimage = "p1.img"\n"é" = 1\n
 a share|share|share = []\n[[module]]\nname = "one"\nimage = "p1.img"\n
-an action that is not built|device[0].action|[[module]]\nname = "one"\nimage = "p1.img"\n[[device]]\nname = "tick"\naction = "tick"\nscript = []\n
+an action that is not built|device[0].action|[[module]]\nname = "one"\nimage = "p1.img"\n[[device]]\nname = "uart"\naction = "queue"\ntarget = "uart"\nscript = []\n
 ROWS
 
 board 'a key of 60,000 bytes' 3 "refused board: module[0].${long:0:60000}" \

@@ -7,8 +7,8 @@ use Rattle.std.proofs.lemmas.List.Quantifiers.{position-Some}
 use Rattle.std.proofs.lemmas.List.Sums.{sum_by_push}
 use Rattle.std.specs.Str.{bytes_eq}
 use Rattle.toml.specs.Data.{Data, Items, no_items, item, Members, get_member, as_str, as_array}
-use Rattle.board_file.specs.Board.{action_of, board_of, device_of, module_in, module_of, names_device, repeated, script_within, script_words, show_of}
-use Rattle.board_file.specs.Field.{◌>>=◌, Part, array_within, as_number, entries, entry_after, forbidden, in_range, items_count, name_of, name_unless, named, nothing_else, optional, or_absent, passing, required, table_at, words_of}
+use Rattle.board_file.specs.Board.{action_of, board_of, device_of, module_in, module_of, names_device, repeated, script_within, script_words, show_of, target_of}
+use Rattle.board_file.specs.Field.{◌>>=◌, Part, array_within, as_number, entries, entry_after, forbidden, in_range, items_count, name_unless, named, nothing_else, optional, or_absent, passing, required, table_at, words_of}
 use Rattle.board_file.specs.Path.{entry_path, key_path}
 use Rattle.board_file.specs.Rules.{IsBoard, IsShow}
 use Rattle.board_file.specs.declared.board.Board.{Board}
@@ -108,7 +108,7 @@ unfolding device_of
 scripts_kept part earlier d before h =
     after (required (name_unless (names_device earlier)) part (codes "name")) _ d h (λ name name_is h1.
     after (required action_of part (codes "action")) _ d h1 (λ action action_is h2.
-    after (required name_of part (codes "target")) _ d h2 (λ target target_is h3.
+    after (target_of action part) _ d h2 (λ target target_is h3.
     after (required words_of part (codes "script")) _ d h3 (λ words words_is h4.
     after (optional 1 (in_range 1 65536 1) part (codes "repeat")) _ d h4 (λ repeat repeat_is h5.
     after (named (key_path part.path (codes "script")) (script_within (script_words earlier) repeat words)) _ d h5 (λ script script_is h6.

@@ -7,7 +7,7 @@ use Rattle.tx_types.specs.Limits.{module_limit, device_limit, show_limit, cell_l
 use Rattle.board_file.specs.Field.{◌>>=◌, Part, named, required, optional, forbidden, in_range, name_of, name_unless, text_within, array_within, words_of, entries, nothing_else}
 use Rattle.board_file.specs.Path.{key_path}
 use Rattle.board_file.specs.declared.board.Action.{Action}
-use Rattle.board_file.specs.declared.board.Action.TheVariants.{Resume}
+use Rattle.board_file.specs.declared.board.Action.TheVariants.{Resume, Tick}
 use Rattle.board_file.specs.declared.board.Board.{Board}
 use Rattle.board_file.specs.declared.board.BoardModule.{BoardModule}
 use Rattle.board_file.specs.declared.board.BoardDevice.{BoardDevice}
@@ -29,11 +29,21 @@ module_of part earlier = do
   rest ← nothing_else (codes "name" ∷ codes "image" ∷ codes "start" ∷ []) part
   Ok (record { name = name; image = image; start = start })
 
--- the one action so far is `resume`
+-- the actions so far are `tick` and `resume`
+abbrev pub action_named : List ℕ → Option Action
+action_named text =
+    if bytes_eq text (codes "tick") then Some Tick
+    else (if bytes_eq text (codes "resume") then Some Resume else None)
+
 abbrev pub action_of : Data → Option Action
-action_of d =
-    option_and_then (λ text. if bytes_eq text (codes "resume") then Some Resume else None)
-    (as_str d)
+action_of d = option_and_then action_named (as_str d)
+
+-- what an action is made on, by name; a tick may have no target
+abbrev pub target_of : Action → Part → Result (List ℕ) (List ℕ)
+target_of Tick part = do
+  none ← forbidden part (codes "target")
+  Ok []
+target_of _ part = required name_of part (codes "target")
 
 -- the words the given number of times over
 abbrev pub repeated : ℕ → List ℕ → List ℕ
@@ -55,7 +65,7 @@ unfoldable pub device_of : Part → List BoardDevice → Result BoardDevice (Lis
 device_of part earlier = do
   name ← required (name_unless (names_device earlier)) part (codes "name")
   action ← required action_of part (codes "action")
-  target ← required name_of part (codes "target")
+  target ← target_of action part
   words ← required words_of part (codes "script")
   repeat ← optional 1 (in_range 1 interrupt_limit 1) part (codes "repeat")
   script ← named (key_path part.path (codes "script"))

@@ -5,7 +5,7 @@ ghost use Rattle.std.specs.Prelude.{◌≡◌, ◌+◌, ◌*◌, ◌≤◌, [], 
 ghost use Rattle.toml.specs.View.{view, array_view};
 ghost use Rattle.tx_types.specs.Limits.{interrupt_limit};
 ghost use Rattle.board_file.specs.Answer.{Reads, ReadsAs};
-ghost use Rattle.board_file.specs.Board.{action_of, device_of, names_device, repeated, script_within, script_words};
+ghost use Rattle.board_file.specs.Board.{action_named, action_of, device_of, names_device, repeated, script_within, script_words, target_of};
 ghost use Rattle.board_file.specs.Field.{required, named, name_unless, words_in, words_of, entries, entry_after};
 ghost use Rattle.board_file.specs.Path.{key_path};
 ghost use Rattle.board_file.specs.Part.{part_view, entries_view};
@@ -41,13 +41,26 @@ fn device_name(part: &Part, earlier: &[BoardDevice]) -> Result<Name, BoardErr>
     }
 }
 
-/// The action of a word; `resume` is the only one so far.
+/// The action of a word; `tick` and `resume` are those so far.
+fn action_named(text: &str) -> Option<Action>
+    ensures { result ≡ action_named text.now }
+{
+    if text == "tick" {
+        Some(Action::Tick)
+    } else if text == "resume" {
+        Some(Action::Resume)
+    } else {
+        None
+    }
+}
+
+/// The action that a value names.
 fn action_of(value: &Value) -> Option<Action>
     ensures { result ≡ action_of (view value.now) }
 {
     match value.as_str() {
-        Some(text) if text == "resume" => Some(Action::Resume),
-        _ => None,
+        Some(text) => action_named(text),
+        None => None,
     }
 }
 
@@ -135,6 +148,19 @@ fn action(part: &Part) -> Result<Action, BoardErr>
     }
 }
 
+/// The target of an action. A tick has none, and is refused where one stands there.
+fn target(part: &Part, action: Action) -> Result<Name, BoardErr>
+    ensures { Reads (target_of action (part_view part.now)) result }
+{
+    match action {
+        Action::Tick => {
+            part.forbidden("target")?;
+            Ok(Name::empty())
+        }
+        _ => part.name("target"),
+    }
+}
+
 /// A device, where these come before it, whose scripts have the given number of words.
 fn device(part: &Part, earlier: &[BoardDevice], before: usize) -> Result<BoardDevice, BoardErr>
     requires words { before ≡ script_words earlier.now }
@@ -144,7 +170,7 @@ fn device(part: &Part, earlier: &[BoardDevice], before: usize) -> Result<BoardDe
 {
     let name = device_name(part, earlier)?;
     let action = action(part)?;
-    let target = part.name("target")?;
+    let target = target(part, action)?;
     let words = words(part)?;
     let repeat = part.number_or("repeat", 1, 1, 65536, 1)?;
     let script = script(part, &words, repeat, before)?;

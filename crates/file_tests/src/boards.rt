@@ -138,7 +138,7 @@ const MODULES: [(&str, &str); 27] = [
 ];
 
 /// Fields of a second device.
-const DEVICES: [(&str, &str); 17] = [
+const DEVICES: [(&str, &str); 19] = [
     (
         "name = \"d\"\naction = \"resume\"\ntarget = \"none\"\nscript = []\n",
         "ok",
@@ -163,9 +163,14 @@ const DEVICES: [(&str, &str); 17] = [
         "name = \"d\"\naction = 1\ntarget = \"none\"\nscript = []\n",
         "device[1].action",
     ),
+    ("name = \"d\"\naction = \"tick\"\nscript = []\n", "ok"),
     (
-        "name = \"d\"\naction = \"tick\"\nscript = []\n",
-        "device[1].action",
+        "name = \"d\"\naction = \"tick\"\ntarget = \"one\"\nscript = []\n",
+        "device[1].target",
+    ),
+    (
+        "name = \"d\"\naction = \"tick\"\ntarget = 1\nscript = 1\n",
+        "device[1].target",
     ),
     (
         "name = \"d\"\naction = \"semaphore\"\ntarget = \"one\"\nscript = []\n",
