@@ -13,7 +13,7 @@ use Rattle.region_guard.specs.declared.region.Access.TheVariants.{Store}
 use Rattle.rv_core.specs.Execute.{Effect, Completes, Stores, Calls, Faults}
 use Rattle.rv_core.specs.Hart.{HartState}
 use Rattle.board_file.specs.declared.board.Action.{Action}
-use Rattle.board_file.specs.declared.board.Action.TheVariants.{Resume}
+use Rattle.board_file.specs.declared.board.Action.TheVariants.{Resume, Tick}
 use Rattle.event_log.specs.Events.{Event, Step, Irq}
 use Rattle.kernel_state.specs.Kernel.{thread, module_of}
 use Rattle.kernel_state.specs.Laws.{RunningIsReady, ReadyIsThread}
@@ -27,7 +27,7 @@ use Rattle.call_dispatch.specs.Ecall.{dispatched}
 use Rattle.call_dispatch.specs.Laws.{CallWritesItsResultAlone}
 use Rattle.call_dispatch.specs.Rows.{call_row}
 use Rattle.module_manager.specs.Laws.{HaltKeepsMemory}
-use Rattle.board_core.specs.Action.{acted, device_of, resumed_by_name}
+use Rattle.board_core.specs.Action.{acted, clock_advanced, device_of, resumed_by_name}
 use Rattle.board_core.specs.Bus.{seen}
 use Rattle.board_core.specs.Frame.{effect_frame, frame, step_frame}
 use Rattle.board_core.specs.Laws.{FrameLaw, IsWorld}
@@ -37,6 +37,7 @@ use Rattle.board_core.specs.World.{World}
 use Rattle.board_core.specs.declared.parts.Parts.{Parts}
 use Rattle.board_core.proofs.Effects.{IsAllowed, executed_allowed}
 use Rattle.board_core.proofs.Running.{running_below, thread-with_hart}
+use Rattle.board_core.proofs.Ticking.{tick_spares}
 
 -- the laws of the layers below
 pub record Lower : Type 0 where
@@ -111,7 +112,8 @@ found-memory k g None = refl
 found-memory k g (Some t) = resumption-memory k g t
 
 acted-memory : (p : Parts) (action : Action) (target : List ℕ) (word : ℕ) → (acted p action target word).parts.memory ≡ p.memory
-unfolding resumed_by_name
+unfolding clock_advanced resumed_by_name
+acted-memory p Tick target word = (tick_spares p.kernel p.memory).memory
 acted-memory p Resume target word = found-memory p.kernel p.memory (position (has_name ThreadKind target) p.kernel.objects)
 acted-memory p _ target word = refl
 

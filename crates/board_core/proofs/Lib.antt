@@ -3,6 +3,7 @@ pub mod BurstSteps
 pub mod Counts
 pub mod DataWords
 pub mod Effects
+pub mod FirstWaits
 pub mod Frames
 pub mod Grants
 pub mod Histories
@@ -27,6 +28,8 @@ pub mod Spared
 pub mod Standing
 pub mod Starting
 pub mod Steps
+pub mod Ticking
 pub mod Traces
 pub mod MadeSteps
+pub mod Waits
 pub mod Writes

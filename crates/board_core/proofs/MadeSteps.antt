@@ -20,7 +20,7 @@ use Rattle.rv_core.specs.Execute.{Effect, Completes, Stores, Calls, Faults, exec
 use Rattle.rv_core.specs.Hart.{HartState}
 use Rattle.board_core.specs.Burst.{Burst, Made, burst, burst_by, burst_of, made, made_by, made_of, one_more}
 use Rattle.board_core.specs.Bus.{seen}
-use Rattle.board_core.specs.Laws.{ImagesStay, IsWorld, OwnersStay, RegionsStay}
+use Rattle.board_core.specs.Laws.{IsWorld}
 use Rattle.board_core.specs.Machine.{shown}
 use Rattle.board_core.specs.After.{after}
 use Rattle.board_core.specs.Step.{after_effect, next_effect, ran_on}
@@ -29,7 +29,7 @@ use Rattle.board_core.specs.declared.devices.Device.{Device}
 use Rattle.board_core.specs.declared.parts.Parts.{Parts}
 use Rattle.board_core.proofs.BurstSteps.{Ends, burst_ends}
 use Rattle.board_core.proofs.Running.{running_below, stepped_idle, stepped_is, thread-with_hart}
-use Rattle.board_core.proofs.Standing.{Keeps, Leads, counted, effect_count, effect_devices, event_leads, leads_on, nothing_leads}
+use Rattle.board_core.proofs.Standing.{Keeps, Laws as EventLaws, Leads, counted, effect_count, effect_devices, event_leads, leads_on, nothing_leads}
 use Rattle.board_core.proofs.Steps.{with_hart-same, with_hart-twice}
 
 -- the laws that a step rests on
@@ -38,9 +38,7 @@ pub record Laws : Type 0 where
   pub is_thread : ReadyIsThread
   pub hart : OneHartChanges
   pub lengths : LengthStays
-  pub regions : RegionsStay
-  pub images : ImagesStay
-  pub owners : OwnersStay
+  pub events : EventLaws
 
 -- memory stays sound where its bytes change and stay as many
 sound_bytes : (g : Memory) (bytes : List ℕ) → IsSoundMemory g → length bytes ≡ length g.bytes → IsSoundMemory (record g { bytes = bytes })
@@ -74,11 +72,11 @@ module _ (laws : Laws) (w : World) (t : ℕ) (world : IsWorld w) (runs : w.parts
   step_is : (e : Effect) → next_effect w.parts t ≡ e → after w Step ≡ after_step w (after_effect w.parts t e)
   step_is e is = ap (after_step w) (stepped_is w.parts t e runs is)
 
-  ran_world : (h : HartState) (bytes : List ℕ) → length bytes ≡ length w.parts.memory.bytes
+  ran_world : (h : HartState) (bytes : List ℕ) → length bytes ≡ length w.parts.memory.bytes → w.steps + 1 ≤ 100000000
       → after w Step ≡ after_run w t 1 h (record w.parts.memory { bytes = bytes })
       → Leads w (Step ∷ []) (after_run w t 1 h (record w.parts.memory { bytes = bytes }))
-  ran_world h bytes size is =
-      event_leads laws.images laws.regions laws.owners w (after_run w t 1 h (record w.parts.memory { bytes = bytes })) Step world is
+  ran_world h bytes size few is =
+      event_leads laws.events w (after_run w t 1 h (record w.parts.memory { bytes = bytes })) Step world is
       (record {
         board = world.board;
         serves = record { sound = laws.hart w.parts.kernel t h world.serves.sound below; running = world.serves.running };
@@ -86,6 +84,8 @@ module _ (laws : Laws) (w : World) (t : ℕ) (world : IsWorld w) (runs : w.parts
         modules = world.modules;
         devices = world.devices;
         taken = world.taken;
+        steps = few;
+        irqs = world.irqs;
       })
 
 -- and then comes the rest of the burst
@@ -118,50 +118,49 @@ stays w t world =
 abbrev BurstLeads : World → ℕ → Burst → Type 0
 BurstLeads w t b = Leads w (replicate b.done Step) (ran w t b)
 
-burst_leads_by : Laws → (w : World) (t n : ℕ) → IsWorld w → w.parts.kernel.ready.run ≡ Some t → (e : Effect) → next_effect w.parts t ≡ e
-    → ((v : World) → IsWorld v → v.parts.kernel.ready.run ≡ Some t → BurstLeads v t (burst_of v.parts t n))
+burst_leads_by : Laws → (w : World) (t n : ℕ) → IsWorld w → w.parts.kernel.ready.run ≡ Some t → w.steps + suc n ≤ 100000000
+    → (e : Effect) → next_effect w.parts t ≡ e
+    → ((v : World) → IsWorld v → v.parts.kernel.ready.run ≡ Some t → v.steps + n ≤ 100000000 → BurstLeads v t (burst_of v.parts t n))
     → BurstLeads w t (burst_by (burst (module_of w.parts.kernel t) n) (thread w.parts.kernel t).hart w.parts.memory e)
-burst_leads_by laws w t n world runs (Completes h) is rest =
+burst_leads_by laws w t n world runs room (Completes h) is rest =
     let g = w.parts.memory in
-    let first = ran_world laws w t world runs h g.bytes refl (step_is laws w t world runs (Completes h) is) in
-    ran_more w t n h g world.serves.sound (below laws w t world runs) first (rest (after_run w t 1 h g) first.world runs)
-burst_leads_by laws w t n world runs (Stores a i value h) is rest =
+    let first = ran_world laws w t world runs h g.bytes refl (omega (arith, room)) (step_is laws w t world runs (Completes h) is) in
+    ran_more w t n h g world.serves.sound (below laws w t world runs) first (rest (after_run w t 1 h g) first.world runs (omega (arith, room)))
+burst_leads_by laws w t n world runs room (Stores a i value h) is rest =
     let g = with_number w.parts.memory a i value in
     let size = laws.lengths w.parts.memory.bytes (low_bytes i value) (a - ram_base) in
-    let first = ran_world laws w t world runs h g.bytes size (step_is laws w t world runs (Stores a i value h) is) in
-    ran_more w t n h g world.serves.sound (below laws w t world runs) first (rest (after_run w t 1 h g) first.world runs)
-burst_leads_by laws w t n world runs (Calls h) is rest = stays w t world
-burst_leads_by laws w t n world runs (Faults cause) is rest = stays w t world
+    let first = ran_world laws w t world runs h g.bytes size (omega (arith, room)) (step_is laws w t world runs (Stores a i value h) is) in
+    ran_more w t n h g world.serves.sound (below laws w t world runs) first (rest (after_run w t 1 h g) first.world runs (omega (arith, room)))
+burst_leads_by laws w t n world runs room (Calls h) is rest = stays w t world
+burst_leads_by laws w t n world runs room (Faults cause) is rest = stays w t world
 
 -- a burst is as many steps as instructions completed
-burst_leads : Laws → (t n : ℕ) (w : World) → IsWorld w → w.parts.kernel.ready.run ≡ Some t → BurstLeads w t (burst_of w.parts t n)
-burst_leads laws t zero w world runs = stays w t world
-burst_leads laws t (suc n) w world runs = burst_leads_by laws w t n world runs (next_effect w.parts t) refl (burst_leads laws t n)
+burst_leads : Laws → (t n : ℕ) (w : World) → IsWorld w → w.parts.kernel.ready.run ≡ Some t → w.steps + n ≤ 100000000 → BurstLeads w t (burst_of w.parts t n)
+burst_leads laws t zero w world runs room = stays w t world
+burst_leads laws t (suc n) w world runs room = burst_leads_by laws w t n world runs room (next_effect w.parts t) refl (burst_leads laws t n)
 
 -- where no thread runs a step only counts
-idle_once : (w : World) → IsWorld w → w.parts.kernel.ready.run ≡ None → Leads w (Step ∷ []) (record w { steps = w.steps + 1 })
-idle_once w world idle =
-    record {
-      run = ap (after_step w) (stepped_idle w.parts idle);
-      world = record {
-        board = world.board;
-        serves = world.serves;
-        memory = world.memory;
-        regions = world.regions;
-        modules = world.modules;
-        devices = world.devices;
-        taken = world.taken;
-        owned = world.owned;
-      };
-      images = refl;
-    }
+idle_once : EventLaws → (w : World) → IsWorld w → w.parts.kernel.ready.run ≡ None → w.steps + 1 ≤ 100000000
+    → Leads w (Step ∷ []) (record w { steps = w.steps + 1 })
+idle_once laws w world idle few =
+    event_leads laws w (record w { steps = w.steps + 1 }) Step world (ap (after_step w) (stepped_idle w.parts idle)) (record {
+      board = world.board;
+      serves = world.serves;
+      memory = world.memory;
+      modules = world.modules;
+      devices = world.devices;
+      taken = world.taken;
+      steps = few;
+      irqs = world.irqs;
+    })
 
-idle_leads : (n : ℕ) (w : World) → IsWorld w → w.parts.kernel.ready.run ≡ None → Leads w (replicate n Step) (record w { steps = w.steps + n })
-idle_leads zero w world idle = subst (λ s. Leads w [] (record w { steps = s })) (omega arith) (nothing_leads w world)
-idle_leads (suc n) w world idle =
+idle_leads : EventLaws → (n : ℕ) (w : World) → IsWorld w → w.parts.kernel.ready.run ≡ None → w.steps + n ≤ 100000000
+    → Leads w (replicate n Step) (record w { steps = w.steps + n })
+idle_leads laws zero w world idle room = subst (λ s. Leads w [] (record w { steps = s })) (omega arith) (nothing_leads w world)
+idle_leads laws (suc n) w world idle room =
     let v : World = record w { steps = w.steps + 1 } in
-    let first = idle_once w world idle in
-    let rest = idle_leads n v first.world idle in
+    let first = idle_once laws w world idle (omega (arith, room)) in
+    let rest = idle_leads laws n v first.world idle (omega (arith, room)) in
     subst (λ s. Leads w (replicate (suc n) Step) (record w { steps = s })) (omega arith)
     (leads_on w v (record v { steps = v.steps + n }) (Step ∷ []) (replicate n Step) first rest)
 
@@ -170,12 +169,12 @@ abbrev after_made : World → Made → World
 after_made w u = record w { parts = u.parts; steps = w.steps + u.steps }
 
 -- after a burst comes its end, if it has one
-made_leads_by : Laws → (w : World) (t n : ℕ) (b : Burst) (end : Option Effect) → IsWorld w → w.parts.kernel.ready.run ≡ Some t
+made_leads_by : Laws → (w : World) (t n : ℕ) (b : Burst) (end : Option Effect) → IsWorld w → w.parts.kernel.ready.run ≡ Some t → w.steps + n ≤ 100000000
     → Ends (module_of w.parts.kernel t) n b.done b.hart b.memory end → BurstLeads w t b
     → Serves (made_by w.parts t b end).parts.kernel (made_by w.parts t b end).parts.memory → IsSoundMemory (made_by w.parts t b end).parts.memory
     → Leads w (replicate (made_by w.parts t b end).steps Step) (after_made w (made_by w.parts t b end))
-made_leads_by laws w t n b None world runs ends leads serves memory = leads
-made_leads_by laws w t n b (Some e) world runs ends leads serves memory =
+made_leads_by laws w t n b None world runs room ends leads serves memory = leads
+made_leads_by laws w t n b (Some e) world runs room ends leads serves memory =
     let v = ran w t b in
     let p = after_effect v.parts t e in
     let now = after_made w (made_by w.parts t b (Some e)) in
@@ -192,18 +191,20 @@ made_leads_by laws w t n b (Some e) world runs ends leads serves memory =
       modules = effect_count v.parts t e ∙ world.modules;
       devices = ap (λ (ds : List Device). length ds) devices ∙ world.devices;
       taken = subst (λ (ds : List Device). All (λ d. d.taken ≤ w.irqs) ds) (sym devices) world.taken;
+      steps = omega (arith, room, ends.0);
+      irqs = world.irqs;
     } in
     subst (λ (es : List Event). Leads w es now) (replicate_more b.done Step)
-    (leads_on w v now (replicate b.done Step) (Step ∷ []) leads (event_leads laws.images laws.regions laws.owners v now Step leads.world is keeps))
+    (leads_on w v now (replicate b.done Step) (Step ∷ []) leads (event_leads laws.events v now Step leads.world is keeps))
 
-made_leads_of : Laws → (w : World) (n : ℕ) (run : Option ℕ) → IsWorld w → w.parts.kernel.ready.run ≡ run
+made_leads_of : Laws → (w : World) (n : ℕ) (run : Option ℕ) → IsWorld w → w.parts.kernel.ready.run ≡ run → w.steps + n ≤ 100000000
     → Serves (made_of n w.parts run).parts.kernel (made_of n w.parts run).parts.memory → IsSoundMemory (made_of n w.parts run).parts.memory
     → Leads w (replicate (made_of n w.parts run).steps Step) (after_made w (made_of n w.parts run))
-made_leads_of laws w n None world idle serves memory = idle_leads n w world idle
-made_leads_of laws w n (Some t) world runs serves memory =
+made_leads_of laws w n None world idle room serves memory = idle_leads laws.events n w world idle room
+made_leads_of laws w n (Some t) world runs room serves memory =
     let b = burst_of w.parts t n in
-    made_leads_by laws w t n b b.end world runs (burst_ends (module_of w.parts.kernel t) n (thread w.parts.kernel t).hart w.parts.memory)
-    (burst_leads laws t n w world runs) serves memory
+    made_leads_by laws w t n b b.end world runs room (burst_ends (module_of w.parts.kernel t) n (thread w.parts.kernel t).hart w.parts.memory)
+    (burst_leads laws t n w world runs room) serves memory
 
 -- the world after them is the one that is shown by the parts as they were left and the grown history
 made_shown : (b : Board) (p p' : Parts) (h h' : List Entry) (u : Made) (n : ℕ) → n ≡ u.steps → p' ≡ u.parts → step_count h' ≡ step_count h + n
@@ -212,15 +213,16 @@ made_shown b p p' h h' u n made is steps irqs =
     ap (λ (x : Parts). counted b x (step_count h + u.steps) (irq_count h)) (sym is)
     ∙ (ap (λ i. counted b p' i (irq_count h)) (omega (arith, made, steps)) ∙ ap (λ i. counted b p' (step_count h') i) (sym irqs))
 
-pub made_leads : Laws → (b : Board) (p p' : Parts) (h h' : List Entry) (most n : ℕ) → IsWorld (shown b p h) → n ≡ (made most p).steps
+pub made_leads : Laws → (b : Board) (p p' : Parts) (h h' : List Entry) (most n : ℕ) → IsWorld (shown b p h) → step_count h + most ≤ 100000000
+    → n ≡ (made most p).steps
     → p' ≡ (made most p).parts → step_count h' ≡ step_count h + n → irq_count h' ≡ irq_count h → Serves p'.kernel p'.memory → IsSoundMemory p'.memory
     → Leads (shown b p h) (replicate n Step) (shown b p' h')
-made_leads laws b p p' h h' most n world made_n is steps irqs serves memory =
+made_leads laws b p p' h h' most n world room made_n is steps irqs serves memory =
     let w = shown b p h in
     let u = made most p in
     subst (Leads w (replicate n Step)) (made_shown b p p' h h' u n made_n is steps irqs)
     (subst (λ i. Leads w (replicate i Step) (after_made w u)) (sym made_n)
-    (made_leads_of laws w most p.kernel.ready.run world refl (subst (λ (x : Parts). Serves x.kernel x.memory) is serves)
+    (made_leads_of laws w most p.kernel.ready.run world refl room (subst (λ (x : Parts). Serves x.kernel x.memory) is serves)
     (subst (λ (x : Parts). IsSoundMemory x.memory) is memory)))
 
 -- it is at least one step, and at most as many as were asked for

@@ -5,7 +5,7 @@ use Rattle.std.proofs.lemmas.List.{get_or-set_same, get_or_past}
 use Rattle.tx_types.specs.Code.{thread_error}
 use Rattle.tx_types.specs.declared.kind.Kind.TheVariants.{Thread as ThreadKind}
 use Rattle.board_file.specs.declared.board.Action.{Action}
-use Rattle.board_file.specs.declared.board.Action.TheVariants.{Resume}
+use Rattle.board_file.specs.declared.board.Action.TheVariants.{Resume, Tick}
 use Rattle.event_log.specs.Events.{Step, Irq}
 use Rattle.call_dispatch.specs.Laws.{CallChangesSlotsOnce}
 use Rattle.kernel_state.specs.Kernel.{is_thread, module_of, thread}
@@ -22,7 +22,7 @@ use Rattle.object_grants.specs.Table.{slot}
 use Rattle.object_grants.specs.declared.slot.SlotState.TheVariants.{Live}
 use Rattle.rv_core.specs.Execute.{Effect, Completes, Stores, Calls, Faults}
 use Rattle.thread_calls.specs.ThreadRows.{resumption}
-use Rattle.board_core.specs.Action.{acted, device_of, resumed_by_name}
+use Rattle.board_core.specs.Action.{acted, clock_advanced, device_of, resumed_by_name}
 use Rattle.board_core.specs.Laws.{FaultIsKept, IsWorld, OwnersStay, RunnerIsStarted}
 use Rattle.board_core.specs.Owners.{AreOwned, IsStarted}
 use Rattle.board_core.specs.Step.{after_effect, after_fault, next_effect, stepped, stepped_by, with_hart}
@@ -32,6 +32,7 @@ use Rattle.board_core.proofs.OwnedCalls.{Owned, dispatched_owned, found_owned, r
 use Rattle.board_core.proofs.OwnedHalt.{fault_owned}
 use Rattle.board_core.proofs.OwnedSlots.{owned_at}
 use Rattle.board_core.proofs.Running.{running_below, stepped_is, thread-with_hart}
+use Rattle.board_core.proofs.Ticking.{tick_spares}
 
 -- the laws of the layers below
 pub record Lower : Type 0 where
@@ -78,7 +79,8 @@ step_owned lower w (Some t) world runs = effect_owned lower w t (next_effect w.p
 
 -- an interrupt
 acted_owned : (p : Parts) (action : Action) (target : List ℕ) (word : ℕ) → OwnedParts p → OwnedParts (acted p action target word).parts
-unfolding resumed_by_name
+unfolding clock_advanced resumed_by_name
+acted_owned p Tick target word before = subst (AreOwned p.modules) (sym (tick_spares p.kernel p.memory).objects) before
 acted_owned p Resume target word before =
     let k = p.kernel in
     found_owned p.modules k p.memory thread_error (position (has_name ThreadKind target) k.objects) (resumption k p.memory) before

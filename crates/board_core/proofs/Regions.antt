@@ -10,8 +10,8 @@ use Rattle.module_manager.specs.declared.modules.ModuleState.{ModuleState}
 use Rattle.board_core.specs.Boot.{code_region, data_region, regions_of}
 use Rattle.board_core.specs.Laws.{RegionsStay}
 use Rattle.board_file.specs.declared.board.Action.{Action}
-use Rattle.board_file.specs.declared.board.Action.TheVariants.{Resume}
-use Rattle.board_core.specs.Action.{acted, device_of, resumed_by_name}
+use Rattle.board_file.specs.declared.board.Action.TheVariants.{Resume, Tick}
+use Rattle.board_core.specs.Action.{acted, clock_advanced, device_of, resumed_by_name}
 use Rattle.board_core.specs.After.{after}
 use Rattle.board_core.specs.Step.{after_effect, after_fault, next_effect, stepped, stepped_by}
 use Rattle.board_core.specs.World.{World}
@@ -34,7 +34,8 @@ step_modules p (Some t) P same changed = effect_modules p t (next_effect p t) P 
 
 pub acted_modules : (p : Parts) (action : Action) (target : List ℕ) (word : ℕ) (P : List Module → Type 0) → P p.modules
     → ((m : ℕ) (state : ModuleState) → P (with_state p.modules m state)) → P (acted p action target word).parts.modules
-unfolding resumed_by_name
+unfolding clock_advanced resumed_by_name
+acted_modules p Tick target word P same changed = same
 acted_modules p Resume target word P same changed = same
 acted_modules p _ target word P same changed = same
 

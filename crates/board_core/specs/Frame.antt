@@ -22,7 +22,7 @@ abbrev pub step_frame : Parts → Option ℕ → List Range
 step_frame p None = []
 step_frame p (Some t) = effect_frame p t (next_effect p t)
 
--- no action of a device writes memory yet
+-- no action of a device writes memory: a thread that is resumed or that slept wanted no words
 abbrev pub frame : World → Event → List Range
 frame w Step = step_frame w.parts w.parts.kernel.ready.run
 frame w (Irq d word) = []

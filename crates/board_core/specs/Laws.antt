@@ -1,11 +1,15 @@
 -- Laws of the written machine, over every event.
-use Rattle.std.specs.Prelude.{◌≡◌, ◌≢◌, ⊤, ℕ, ◌+◌, ◌<◌, ◌≤◌, true, List, All, fold, map, length, Some}
+use Rattle.std.specs.Prelude.{◌≡◌, ◌≢◌, ⊤, ℕ, ◌+◌, ◌<◌, ◌≤◌, true, List, [], All, fold, map, length, Some}
+use Rattle.tx_types.specs.Limits.{interrupt_limit, step_limit}
 use Rattle.event_log.specs.Events.{Event, Step, Irq}
-use Rattle.event_log.specs.declared.entry.Entry.{Entry}
+use Rattle.kernel_state.specs.Change.{Change}
 use Rattle.kernel_state.specs.Kernel.{thread, is_thread, module_of}
 use Rattle.kernel_state.specs.Range.{IsOutsideAll}
+use Rattle.kernel_state.specs.Room.{RaisesCounts}
 use Rattle.kernel_state.specs.Serves.{Serves}
 use Rattle.kernel_state.specs.Thread.{is_over}
+use Rattle.kernel_state.specs.WaitCalls.{CallsWaits, EndsWithItsThread}
+use Rattle.kernel_state.specs.declared.kernel.Kernel.{Kernel}
 use Rattle.module_loader.specs.Want.{want_of}
 use Rattle.module_manager.specs.Modules.{module_at}
 use Rattle.module_manager.specs.declared.modules.Module.{Module}
@@ -13,16 +17,24 @@ use Rattle.module_manager.specs.declared.modules.ModuleState.TheVariants.{Faulte
 use Rattle.region_guard.specs.Memory.{Memory, IsSound as IsSoundMemory, byte, bytes_from}
 use Rattle.rv_core.specs.Execute.{Effect, Completes, Stores, Calls, Faults}
 use Rattle.rv_core.specs.declared.bus.Cause.{Cause}
+use Rattle.suspend_lists.specs.Laws.{IsCounted}
+use Rattle.suspend_lists.specs.Waits.{ended_count, pending_count}
 use Rattle.board_file.specs.Rules.{IsBoard}
+use Rattle.board_file.specs.declared.board.Board.{Board}
 use Rattle.board_core.specs.After.{after}
-use Rattle.board_core.specs.Boot.{regions_of}
+use Rattle.board_core.specs.Boot.{booted_parts, regions_of}
 use Rattle.board_core.specs.Frame.{frame}
 use Rattle.board_core.specs.Owners.{AreOwned, IsStarted}
 use Rattle.board_core.specs.Report.{report_of}
-use Rattle.board_core.specs.Run.{Origin, run}
 use Rattle.board_core.specs.Step.{next_effect}
-use Rattle.board_core.specs.Trace.{Traced, next, totals_of}
+use Rattle.board_core.specs.Trace.{AreTallied, IsTallied, Traced, ends, next}
 use Rattle.board_core.specs.World.{World}
+
+-- the counts of a kernel's waits, armings and ticks are at most n
+pub record CountsAtMost (n : ℕ) (k : Kernel) : Type 0 where
+  pub begun : k.waits.totals.begun ≤ n
+  pub armings : k.wheel.armings ≤ n
+  pub ticks : k.wheel.ticks ≤ n
 
 -- what holds of every world that a machine stands for
 pub record IsWorld (w : World) : Type 0 where
@@ -34,16 +46,54 @@ pub record IsWorld (w : World) : Type 0 where
   pub devices : length w.parts.devices ≡ length w.board.devices
   pub taken : All (λ d. d.taken ≤ w.irqs) w.parts.devices
   pub owned : AreOwned w.parts.modules w.parts.kernel.objects
+  pub steps : w.steps ≤ step_limit
+  pub irqs : w.irqs ≤ interrupt_limit
+  pub counts : CountsAtMost (w.steps + w.irqs) w.parts.kernel
 
 -- the world of a trace is what its events make of the first one
 abbrev pub TraceLaw : Type 0
 TraceLaw = (t : Traced) (es : List Event) → (fold next t es).now ≡ fold after t.now es
 
--- the waits that a report counts are those that ended
+-- no event loses a wait or ends one twice
+abbrev pub TallyStays : Type 0
+TallyStays =
+    (t : Traced) (e : Event) → IsWorld t.now → IsTallied t → IsTallied (next t e)
+
+-- a wait ends as Gone only where its thread is completed or terminated in that event
+abbrev pub GoneIsOver : Type 0
+GoneIsOver =
+    (w : World) (e : Event) → IsWorld w
+    → All (EndsWithItsThread w.parts.kernel (after w e).parts.kernel) (ends w e)
+
+-- a report's totals count the waits that ended, and as many began as are pending and ended
 abbrev pub TotalsAreOfEnded : Type 0
 TotalsAreOfEnded =
-    (o : Origin) (history : List Entry)
-    → (report_of (run o history).now).totals ≡ totals_of (run o history).ended
+    (t : Traced) → IsTallied t
+    → let totals = (report_of t.now).totals in
+    IsCounted totals t.ended
+    × (totals.begun ≡ pending_count t.now.parts.kernel.waits + ended_count totals)
+
+-- a booted board begins with no wait, nothing armed and no tick
+abbrev pub BootBeginsNone : Type 0
+BootBeginsNone =
+    (b : Board) (images : List (List ℕ)) → let k = (booted_parts b images).kernel in
+    AreTallied k.waits [] × CountsAtMost 0 k
+
+-- what an event leaves of kernel and memory, and the waits that it ends
+abbrev pub change_by : World → Event → Change
+change_by w e =
+    let p = (after w e).parts in
+    record { kernel = p.kernel; memory = p.memory; ends = ends w e }
+
+-- an event changes waits by calls of their table alone
+abbrev pub EventCallsWaits : Type 0
+EventCallsWaits =
+    (w : World) (e : Event) → IsWorld w → CallsWaits w.parts.kernel (change_by w e)
+
+-- an event begins one wait at most, arms one timeout at most, and is one tick at most
+abbrev pub EventRaisesCounts : Type 0
+EventRaisesCounts =
+    (w : World) (e : Event) → RaisesCounts 1 w.parts.kernel (after w e).parts.kernel
 
 -- each byte outside of an event's frame stays
 abbrev pub FrameLaw : Type 0

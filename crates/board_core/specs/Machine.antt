@@ -8,6 +8,7 @@ use Rattle.event_log.specs.declared.entry.Entry.{Entry}
 use Rattle.board_core.specs.Devices.{device_at}
 use Rattle.board_core.specs.Laws.{IsWorld, images_in}
 use Rattle.board_core.specs.Run.{Origin, run}
+use Rattle.board_core.specs.Trace.{IsTallied}
 use Rattle.board_core.specs.World.{World}
 use Rattle.board_core.specs.declared.devices.Device.{Device}
 use Rattle.board_core.specs.declared.parts.Parts.{Parts}
@@ -35,9 +36,10 @@ shown b p history = record {
 abbrev pub AreCounted : List Device → List Entry → Type 0
 AreCounted ds history = (d : ℕ) → (device_at ds d).taken ≡ length (words_of d history)
 
--- the machine shows the world that the run of its history reaches, and its history is one of its
--- board's devices
+-- the machine shows the world that the run of its history reaches, no wait was lost or ended twice
+-- on the way, and its history is one of its board's devices
 pub record Stands (b : Board) (p : Parts) (history : List Entry) : Type 0 where
+  pub tallied : IsTallied (run (origin_of b p) history)
   pub run : (run (origin_of b p) history).now ≡ shown b p history
   pub world : IsWorld (shown b p history)
   pub its_devices : All (IsEntry (length b.devices)) history

@@ -2,7 +2,6 @@
 use Rattle.std.specs.Prelude.{ℕ, zero, suc, ◌+◌, ◌*◌, nat_le, false, List, [], ◌∷◌, ◌++◌, length, drop, Option, None, Some, if◌then◌else◌}
 use Rattle.std.specs.List.{slice_index_or}
 use Rattle.std.specs.Option.{option_map, option_to_list}
-use Rattle.tx_types.specs.End.{no_waits}
 use Rattle.tx_types.specs.State.{state_number}
 use Rattle.board_file.specs.declared.board.Board.{Board}
 use Rattle.board_file.specs.declared.board.BoardModule.{BoardModule}
@@ -104,7 +103,7 @@ show_cells g ms s =
 abbrev pub show_row : Board → Memory → List Module → ℕ → ShowRow
 show_row b g ms i = record { show = i; cells = show_cells g ms (show_at b i) }
 
--- the whole report; no clock runs yet, and no wait begins
+-- the whole report
 unfoldable pub report_of : World → Report
 report_of w =
     let p = w.parts in
@@ -112,12 +111,12 @@ report_of w =
     record {
       steps = w.steps;
       irqs = w.irqs;
-      ticks = 0;
-      clock = 0;
+      ticks = k.wheel.ticks;
+      clock = k.clock;
       running = k.ready.run;
       held = k.ready.held;
       ready = k.ready.order;
-      totals = no_waits;
+      totals = k.waits.totals;
       modules = rows_below (length p.modules) (module_row w.board p.modules);
       threads = rows_found (length k.objects) (thread_row k);
       objects = rows_found (length k.objects) (object_row k);

@@ -1,6 +1,7 @@
 -- One step of the board: the running thread's next instruction, with its whole call where that is
 -- an ECALL.
-use Rattle.std.specs.Prelude.{ℕ, Option, None, Some}
+use Rattle.std.specs.Prelude.{ℕ, List, [], Option, None, Some}
+use Rattle.tx_types.specs.End.{WaitEnd}
 use Rattle.rv_core.specs.Execute.{Effect, Completes, Stores, Calls, Faults, executed}
 use Rattle.rv_core.specs.Hart.{HartState}
 use Rattle.rv_core.specs.declared.bus.Cause.{Cause}
@@ -59,3 +60,14 @@ stepped_by p (Some t) = after_effect p t (next_effect p t)
 
 unfoldable pub stepped : Parts → Parts
 stepped p = stepped_by p p.kernel.ready.run
+
+-- the waits that a step ends, in order: those of its call, or of the halt of its module
+abbrev pub effect_ends : Parts → ℕ → Effect → List WaitEnd
+effect_ends p t (Completes h) = []
+effect_ends p t (Stores a n value h) = []
+effect_ends p t (Calls h) = (dispatched (with_hart p.kernel t h) p.memory t).change.ends
+effect_ends p t (Faults cause) = (halted p.kernel p.memory (module_of p.kernel t)).ends
+
+abbrev pub step_ends : Parts → Option ℕ → List WaitEnd
+step_ends p None = []
+step_ends p (Some t) = effect_ends p t (next_effect p t)

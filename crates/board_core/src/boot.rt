@@ -10,6 +10,7 @@ ghost use Rattle.board_core.specs.Laid.{AreLaid};
 ghost use Rattle.board_core.specs.Laws.{images_in};
 
 use crate::devices::Devices;
+use crate::laws::no_wait_is_lost;
 use crate::loading::{kernel_with, memory_with};
 use crate::machine::Machine;
 use crate::parts::Parts;
@@ -190,6 +191,7 @@ impl Machine {
         ensures accepted { IfOk result (λ _. boot_refusal board.now (contents images.now) ≡ None) }
         ensures refused { IfErr result (Refuses (boot_refusal board.now (contents images.now))) }
     {
+        no_wait_is_lost();
         let parts = booted_parts(alloc, board, images)?;
         let history = History::reserve(alloc, max_irqs)?;
         let board = copy_of(board)?;

@@ -1,13 +1,24 @@
 //! What holds of every event, whatever the board: each function's contract is a law.
 //!
 //! Their bodies do nothing; a function calls one where its proof needs the law.
-ghost use Rattle.board_core.specs.Laws.{TraceLaw, TotalsAreOfEnded, FrameLaw, RegionsStay, ImagesStay, OwnersStay, RunnerIsStarted, FaultIsKept, CodeIsInNoFrame, DataIsItsModules, FaultSparesOthers, FaultKeepsBytes};
+ghost use Rattle.board_core.specs.Laws.{TraceLaw, TallyStays, GoneIsOver, TotalsAreOfEnded, BootBeginsNone, EventRaisesCounts, FrameLaw, RegionsStay, ImagesStay, OwnersStay, RunnerIsStarted, FaultIsKept, CodeIsInNoFrame, DataIsItsModules, FaultSparesOthers, FaultKeepsBytes};
 
-use call_dispatch::laws::{a_call_changes_slots_once, a_call_writes_its_result_alone};
+use call_dispatch::laws::{
+    a_call_calls_waits, a_call_changes_slots_once, a_call_raises_counts_by_one,
+    a_call_writes_its_result_alone,
+};
 use flat_ram::{a_number_lies_lowest_byte_first, a_write_changes_its_range_alone};
-use kernel_state::laws::who_runs_is_a_thread;
-use module_manager::laws::{a_halt_ends_its_module, a_halt_spares_other_modules};
+use kernel_state::laws::{
+    a_change_calls_waits, a_change_raises_counts_by_one, a_kernel_stays_sound, who_runs_is_a_thread,
+};
+use module_manager::laws::{
+    a_halt_ends_its_module, a_halt_ends_waits, a_halt_spares_other_modules, a_start_keeps_waits,
+};
 use region_guard::{a_write_changes_its_bytes_alone, what_may_be_used_is_in_ram};
+use suspend_lists::{
+    begun_is_pending_and_ended, calls_keep_the_table, no_number_is_given_twice,
+    totals_count_the_ends,
+};
 
 /// A run reaches what its events make of the booted board, one after another; and a report counts the
 /// waits that ended.
@@ -15,6 +26,29 @@ pub fn a_run_is_its_events()
     ensures now { TraceLaw }
     ensures totals { TotalsAreOfEnded }
 {}
+
+/// No event loses a wait or ends one twice, and only the wait of a thread that ends in it ends as
+/// gone. A booted board has no wait yet, and an event begins one at most, arms one timeout at most and
+/// is one tick at most.
+pub fn no_wait_is_lost()
+    ensures booted { BootBeginsNone }
+    ensures tally { TallyStays }
+    ensures gone { GoneIsOver }
+    ensures counts { EventRaisesCounts }
+{
+    who_runs_is_a_thread();
+    a_kernel_stays_sound();
+    a_call_calls_waits();
+    a_call_raises_counts_by_one();
+    a_halt_ends_waits();
+    a_start_keeps_waits();
+    a_change_calls_waits();
+    a_change_raises_counts_by_one();
+    calls_keep_the_table();
+    no_number_is_given_twice();
+    totals_count_the_ends();
+    begun_is_pending_and_ended();
+}
 
 /// An event changes no byte outside of its frame.
 pub fn a_frame_bounds_an_event()

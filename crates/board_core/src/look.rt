@@ -1,8 +1,8 @@
 //! What a report says of a machine.
 //!
-//! The machine is read and never changed. The ticks, the clock and the counts of waits are 0, since
-//! no event is a tick or begins a wait. The lines are made in `board_report`.
-ghost use Rattle.std.specs.Prelude.{◌≡◌, IfOk};
+//! The machine is read and never changed. No machine has so many ticks that they are no word. The
+//! lines are made in `board_report`.
+ghost use Rattle.std.specs.Prelude.{◌≡◌, ◌<◌, ◌^◌, IfOk};
 ghost use Rattle.board_report.specs.Printable.{IsPrintable};
 ghost use Rattle.board_core.specs.Laws.{IsWorld};
 ghost use Rattle.board_core.specs.Machine.{shown};
@@ -18,7 +18,7 @@ use board_values::Report;
 use event_log::History;
 use kernel_state::Kernel;
 use std::alloc::Global;
-use tx_types::{NoMemory, Totals};
+use tx_types::NoMemory;
 
 /// The number of the running thread.
 fn running(kernel: &Kernel) -> Option<u16>
@@ -28,6 +28,14 @@ fn running(kernel: &Kernel) -> Option<u16>
         Some(t) => Some(t.number()),
         None => None,
     }
+}
+
+/// How many ticks came.
+fn ticks(kernel: &Kernel) -> u32
+    requires { kernel.now.wheel.ticks < 2 ^ 32 }
+    ensures { result ≡ kernel.now.wheel.ticks }
+{
+    kernel.wheel.ticks() as u32
 }
 
 /// The report on a board by its parts and its history.
@@ -47,12 +55,12 @@ fn report(
     Ok(Report {
         steps: history.steps(),
         irqs: history.irqs(),
-        ticks: 0,
-        clock: 0,
+        ticks: ticks(kernel),
+        clock: kernel.clock,
         running: running(kernel),
         held: numbers(alloc, &kernel.ready.held_list(alloc)?)?,
         ready: numbers(alloc, &kernel.ready.ready_list(alloc)?)?,
-        totals: Totals::NONE,
+        totals: kernel.waits.totals(),
         modules: module_rows(alloc, board, &parts.modules)?,
         threads: thread_rows(alloc, kernel)?,
         objects: object_rows(alloc, kernel)?,

@@ -10,9 +10,12 @@ ghost use Rattle.region_guard.specs.Memory.{IsSound as IsSoundMemory};
 ghost use Rattle.module_manager.specs.Modules.{module_at};
 ghost use Rattle.board_core.specs.Laws.{IsWorld};
 ghost use Rattle.board_core.specs.Run.{run};
+ghost use Rattle.board_core.specs.Trace.{IsTallied};
 ghost use Rattle.board_core.specs.Devices.{device_at};
 
-use crate::laws::{an_event_keeps_regions_and_images, slots_are_of_started_modules};
+use crate::laws::{
+    an_event_keeps_regions_and_images, no_wait_is_lost, slots_are_of_started_modules,
+};
 use crate::parts::Parts;
 use board_file::Board;
 use board_values::DevNo;
@@ -83,6 +86,7 @@ impl Machine {
         a_history_grows_by_steps();
         an_event_keeps_regions_and_images();
         slots_are_of_started_modules();
+        no_wait_is_lost();
         who_runs_is_a_thread();
         a_kernel_stays_sound();
         a_write_changes_its_range_alone();
@@ -103,16 +107,19 @@ impl Machine {
         an_interrupt_is_one_word_more();
         an_event_keeps_regions_and_images();
         slots_are_of_started_modules();
+        no_wait_is_lost();
         let _ = self.history.room();
         self.parts.interrupt(&self.board, d, w);
         is_guarded(&self.parts.memory);
         self.history.add_irq(d, w);
     }
 
-    /// The run of the machine's history is a world of which the laws speak; the history is one of the
-    /// board's devices, within its limits and the room.
+    /// The run of the machine's history is a world of which the laws speak, and no wait was lost or
+    /// ended twice on the way; the history is one of the board's devices, within its limits and the
+    /// room.
     pub fn stands(&self)
         ensures world { IsWorld (run self.now.origin self.now.history).now }
+        ensures tallied { IsTallied (run self.now.origin self.now.history) }
         ensures history { IsHistory (length self.now.origin.board.devices) self.now.history }
         ensures room { irq_count self.now.history ≤ self.now.irqs }
     {

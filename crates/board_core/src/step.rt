@@ -5,6 +5,7 @@
 //! fault can change who runs, so that is asked after them alone.
 ghost use Rattle.std.specs.Prelude.{◌≡◌, Some};
 ghost use Rattle.kernel_state.specs.Kernel.{thread};
+ghost use Rattle.kernel_state.specs.Room.{HasRoom};
 ghost use Rattle.kernel_state.specs.Serves.{Serves};
 ghost use Rattle.board_core.specs.Burst.{burst_of, hart_at, made, made_of, out_at};
 ghost use Rattle.board_core.specs.Step.{after_call, after_fault, ran_on};
@@ -20,7 +21,8 @@ impl Parts {
     /// Makes the steps up to the next call or fault, with that, at most the given number, and says
     /// how many; all of them where no thread runs.
     pub(crate) fn make_steps(&mut self, most: u32) -> u32
-        requires { Serves self.old.kernel self.old.memory }
+        requires serves { Serves self.old.kernel self.old.memory }
+        requires room { HasRoom self.old.kernel }
         ensures steps { result ≡ (made most self.old).steps }
         ensures parts { self.new ≡ (made most self.old).parts }
         ensures serves { Serves self.new.kernel self.new.memory }
@@ -34,6 +36,7 @@ impl Parts {
     /// Makes the steps of the running thread.
     fn run(&mut self, t: ThreadNo, most: u32) -> u32
         requires serves { Serves self.old.kernel self.old.memory }
+        requires room { HasRoom self.old.kernel }
         requires runs { self.old.kernel.ready.run ≡ Some t }
         ensures steps { result ≡ (made_of most self.old (Some t)).steps }
         ensures parts { self.new ≡ (made_of most self.old (Some t)).parts }
@@ -56,6 +59,7 @@ impl Parts {
         ensures parts { self.new ≡ (let b = burst_of self.old t most in
             ran_on self.old t (hart_at b.end b.hart) b.memory) }
         ensures runs { self.new.kernel.ready ≡ self.old.kernel.ready }
+        ensures room { HasRoom self.old.kernel → HasRoom self.new.kernel }
         ensures serves { Serves self.new.kernel self.new.memory }
     {
         a_kernel_stays_sound();
@@ -66,6 +70,7 @@ impl Parts {
     /// Serves the call of a thread.
     fn call(&mut self, t: ThreadNo)
         requires serves { Serves self.old.kernel self.old.memory }
+        requires room { HasRoom self.old.kernel }
         requires runs { self.old.kernel.ready.run ≡ Some t }
         ensures parts { self.new ≡ after_call self.old t }
         ensures serves { Serves self.new.kernel self.new.memory }

@@ -1,4 +1,4 @@
-use Rattle.std.proofs.Common.{◌≡◌, ℕ, ◌<◌, List, length, All, sym, subst, rules, ◌∙◌}
+use Rattle.std.proofs.Common.{◌≡◌, ℕ, ◌<◌, List, length, All, sym, subst, arith, rules, ◌∙◌}
 use Rattle.board_report.specs.Printable.{IsPrintable}
 use Rattle.board_values.specs.declared.report.ThreadRow.{ThreadRow}
 use Rattle.board_core.specs.Machine.{shown}
@@ -6,6 +6,11 @@ use Rattle.board_core.specs.Report.{report_of}
 use Rattle.board_core.specs.World.{World}
 use Rattle.board_core.proofs.Printing.{report_is_printable}
 use Rattle.board_core.proofs.look.report.Goals as goal
+
+-- no more ticks came than there were events
+pub ticks-requires : goal.ticks-requires
+ticks-requires c =
+    let world = c.requires in omega (arith, world.counts.ticks, world.steps, world.irqs)
 
 pub returns-clause-report : goal.returns-clause-report
 unfolding report_of

@@ -8,8 +8,14 @@ use Rattle.board_core.specs.declared.parts.Parts.{Parts}
 use Rattle.board_core.proofs.Histories.{AreEntries, steps_entries}
 use Rattle.board_core.proofs.MadeSteps.{Laws, made_devices, made_leads, some_made}
 use Rattle.board_core.proofs.Standing.{Leads, events_stand}
+use Rattle.board_core.proofs.Waits.{has_room}
 use Rattle.board_core.proofs.machine.Machine.make.Goals as goal
 use Rattle.board_core.proofs.machine.Machine.make.Goals.{After-add_steps, After-make_steps-made}
+
+-- there is room for one event more
+pub make_steps-made-requires-clause-room : goal.make_steps-made-requires-clause-room
+make_steps-made-requires-clause-room c =
+    let m = c.self.inside in has_room (shown m.board m.parts m.history.entries) c.self.invariant.world
 
 -- at least one step was made, and no more than were asked for
 made : (c : After-make_steps-made) → (0 < c.make_steps-made.result) × (c.make_steps-made.result ≤ c.args.most)
@@ -33,11 +39,16 @@ leads c =
       is_thread = c.who_runs_is_a_thread.ensures.ready_is_thread;
       hart = c.a_kernel_stays_sound.ensures.one_hart_changes;
       lengths = c.a_write_changes_its_range_alone.ensures.length_stays;
-      regions = stay.regions;
-      images = stay.images;
-      owners = c.slots_are_of_started_modules.ensures.owners;
+      events = record {
+        regions = stay.regions;
+        images = stay.images;
+        owners = c.slots_are_of_started_modules.ensures.owners;
+        raises = c.no_wait_is_lost.ensures.counts;
+        tally = c.no_wait_is_lost.ensures.tally;
+      };
     } in
-    made_leads laws m.board m.parts c.make_steps-made.new.self h c.add_steps.new.self.entries c.args.most n c.self.invariant.world
+    let room = subst (λ (s : Recorded). step_count s.history + c.args.most ≤ 100000000) (sym c.self.view_is) c.requires.room in
+    made_leads laws m.board m.parts c.make_steps-made.new.self h c.add_steps.new.self.entries c.args.most n c.self.invariant.world room
     c.make_steps-made.ensures.steps c.make_steps-made.ensures.parts
     (ap step_count c.add_steps.ensures.entries ∙ grows.steps n h) (ap irq_count c.add_steps.ensures.entries ∙ grows.irqs n h)
     c.make_steps-made.ensures.serves c.is_guarded.ensures

@@ -11,7 +11,8 @@ use Rattle.board_core.specs.declared.devices.Device.{Device}
 use Rattle.board_core.specs.declared.parts.Parts.{Parts}
 use Rattle.board_core.proofs.Counts.{irq_counts}
 use Rattle.board_core.proofs.Histories.{AreEntries}
-use Rattle.board_core.proofs.Standing.{event_stands, images_shown, interrupt_devices, irq_keeps, irq_next, status_by}
+use Rattle.board_core.proofs.Standing.{Laws, event_stands, images_shown, interrupt_devices, irq_keeps, irq_next, status_by}
+use Rattle.board_core.proofs.Waits.{has_room}
 use Rattle.board_core.proofs.machine.Machine.take.Goals as goal
 use Rattle.board_core.proofs.machine.Machine.take.Goals.{After-add_irq, After-room}
 
@@ -29,18 +30,31 @@ pub interrupt-requires-clause-device : goal.interrupt-requires-clause-device
 interrupt-requires-clause-device c = is_kept (goal.at.interrupt-requires-clause-device c).After-room
 
 -- no more was taken of it than in all, and so there is room for one more
-pub interrupt-requires-clause-room : goal.interrupt-requires-clause-room
-interrupt-requires-clause-room c =
+pub interrupt-requires-clause-taken : goal.interrupt-requires-clause-taken
+interrupt-requires-clause-taken c =
     let m = c.self.inside in
-    let inside = is_kept (goal.at.interrupt-requires-clause-room c).After-room in
+    let inside = is_kept (goal.at.interrupt-requires-clause-taken c).After-room in
     let room = subst (λ (s : Recorded). irq_count s.history < s.irqs) (sym c.self.view_is) c.requires.room in
     let taken = All-get_or (λ (x : Device). x.taken ≤ irq_count m.history.entries) m.parts.devices c.args.d fresh_device inside c.self.invariant.world.taken in
     omega (arith, taken, room, c.room.ensures.same, c.room.ensures.at_most)
+
+pub interrupt-requires-clause-room : goal.interrupt-requires-clause-room
+interrupt-requires-clause-room c =
+    let m = c.self.inside in has_room (shown m.board m.parts m.history.entries) c.self.invariant.world
 
 -- one interrupt is counted, and the parts are what it leaves
 irqs_more : (c : After-add_irq) → irq_count c.add_irq.new.self.entries ≡ irq_count c.self.inside.history.entries + 1
 irqs_more c =
     ap irq_count c.add_irq.ensures.entries ∙ c.a_history_grows_by_one_event.ensures.irqs_by_irq c.args.d c.args.w c.self.inside.history.entries
+
+steps_same : (c : After-add_irq) → step_count c.add_irq.new.self.entries ≡ step_count c.self.inside.history.entries
+steps_same c =
+    ap step_count c.add_irq.ensures.entries ∙ c.a_history_grows_by_one_event.ensures.steps_by_irq c.args.d c.args.w c.self.inside.history.entries
+
+few : (c : After-add_irq) → irq_count c.add_irq.new.self.entries ≤ 65536
+few c =
+    let room = subst (λ (s : Recorded). irq_count s.history < s.irqs) (sym c.self.view_is) c.requires.room in
+    omega (arith, irqs_more c, room, c.room.ensures.same, c.room.ensures.at_most)
 
 shows : (c : After-add_irq)
     → let m = c.self.inside in
@@ -48,8 +62,7 @@ shows : (c : After-add_irq)
 shows c =
     let m = c.self.inside in
     let h = m.history.entries in
-    let steps = ap step_count c.add_irq.ensures.entries ∙ c.a_history_grows_by_one_event.ensures.steps_by_irq c.args.d c.args.w h in
-    irq_next m.board m.parts c.interrupt.new.self h c.add_irq.new.self.entries c.args.d c.args.w c.interrupt.ensures.parts steps (irqs_more c)
+    irq_next m.board m.parts c.interrupt.new.self h c.add_irq.new.self.entries c.args.d c.args.w c.interrupt.ensures.parts (steps_same c) (irqs_more c)
 
 -- and its word is one more of its device
 counts : (c : After-add_irq) → c.args.d < length c.self.inside.parts.devices → AreCounted c.interrupt.new.self.devices c.add_irq.new.self.entries
@@ -75,12 +88,19 @@ invariant_of-self c =
     let w = c.args.w in
     let n = length m.board.devices in
     let p' = c.interrupt.new.self in
-    event_stands stay.images stay.regions c.slots_are_of_started_modules.ensures.owners m.board m.parts p' h h' (Irq d w) c.self.invariant
+    let laws : Laws = record {
+      regions = stay.regions;
+      images = stay.images;
+      owners = c.slots_are_of_started_modules.ensures.owners;
+      raises = c.no_wait_is_lost.ensures.counts;
+      tally = c.no_wait_is_lost.ensures.tally;
+    } in
+    event_stands laws m.board m.parts p' h h' (Irq d w) c.self.invariant
     (subst (AreEntries n) (sym c.add_irq.ensures.entries)
     (All-push (IsEntry n) h (entry.Irq d w) c.self.invariant.its_devices (its_board before, omega (arith, c.ranges.w))))
     (ap events_of c.add_irq.ensures.entries ∙ c.a_history_grows_by_one_event.ensures.irq d w h) (shows at)
-    (irq_keeps m.board m.parts p' h h' d w c.self.invariant.world (is_kept before) c.interrupt.ensures.parts (irqs_more at) c.interrupt.ensures.serves
-    c.is_guarded.ensures)
+    (irq_keeps m.board m.parts p' h h' d w c.self.invariant.world (is_kept before) c.interrupt.ensures.parts (steps_same at) (irqs_more at) (few at)
+    c.interrupt.ensures.serves c.is_guarded.ensures)
     (counts at (is_kept before))
 
 pub returns : goal.returns
