@@ -25,7 +25,7 @@ use Rattle.kernel_state.specs.Range.{Range, WritesAlone}
 use Rattle.kernel_state.specs.Registers.{arguments, number_asked}
 use Rattle.call_dispatch.specs.Ecall.{dispatched}
 use Rattle.call_dispatch.specs.Laws.{CallWritesItsResultAlone}
-use Rattle.call_dispatch.specs.Rows.{call_row}
+use Rattle.call_dispatch.specs.Services.{call_row}
 use Rattle.module_manager.specs.Laws.{HaltKeepsMemory}
 use Rattle.board_core.specs.Action.{acted, clock_advanced, device_of, resumed_by_name}
 use Rattle.board_core.specs.Bus.{seen}

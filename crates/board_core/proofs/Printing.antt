@@ -7,7 +7,7 @@ use Rattle.board_report.specs.Printable.{IsNumbers, IsPrintable}
 use Rattle.board_values.specs.declared.report.ObjectRow.{ObjectRow}
 use Rattle.board_values.specs.declared.report.ShowRow.{ShowRow}
 use Rattle.board_values.specs.declared.report.ThreadRow.{ThreadRow}
-use Rattle.kernel_state.specs.Rows.{has_object, object_row, row_of_slot}
+use Rattle.kernel_state.specs.ObjectReport.{has_object, object_row, row_of_slot}
 use Rattle.kernel_state.specs.declared.kernel.Kernel.{Kernel}
 use Rattle.module_manager.specs.Modules.{module_at}
 use Rattle.object_grants.specs.Table.{slot}

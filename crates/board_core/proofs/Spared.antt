@@ -20,7 +20,7 @@ use Rattle.kernel_state.specs.Thread.{is_over}
 use Rattle.kernel_state.specs.declared.thread.Thread.{Thread}
 use Rattle.kernel_state.specs.Registers.{arguments, number_asked}
 use Rattle.kernel_state.specs.Range.{IsOutsideAll, Range}
-use Rattle.call_dispatch.specs.Rows.{row_asked, row_writes}
+use Rattle.call_dispatch.specs.Services.{row_asked, row_writes}
 use Rattle.module_manager.specs.Laws.{HaltSparesThreads}
 use Rattle.module_manager.specs.Modules.{module_at}
 use Rattle.board_core.specs.Boot.{code_region, data_region}

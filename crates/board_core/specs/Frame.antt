@@ -2,7 +2,7 @@
 use Rattle.std.specs.Prelude.{ℕ, List, [], ◌∷◌, Option, None, Some}
 use Rattle.kernel_state.specs.Registers.{arguments, number_asked}
 use Rattle.kernel_state.specs.Range.{Range, range}
-use Rattle.call_dispatch.specs.Rows.{call_result}
+use Rattle.call_dispatch.specs.Services.{call_result}
 use Rattle.event_log.specs.Events.{Event, Step, Irq}
 use Rattle.rv_core.specs.Execute.{Effect, Completes, Stores, Calls, Faults}
 use Rattle.board_core.specs.Step.{next_effect, with_hart}

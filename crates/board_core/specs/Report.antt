@@ -14,7 +14,7 @@ use Rattle.board_values.specs.declared.report.ShowRow.{ShowRow}
 use Rattle.board_values.specs.declared.report.ThreadRow.{ThreadRow}
 use Rattle.call_arguments.specs.Words.{word_at}
 use Rattle.kernel_state.specs.Kernel.{thread, is_thread, module_of, effective_priority, effective_threshold}
-use Rattle.kernel_state.specs.Rows.{object_row}
+use Rattle.kernel_state.specs.ObjectReport.{object_row}
 use Rattle.kernel_state.specs.declared.kernel.Kernel.{Kernel}
 use Rattle.module_loader.specs.Want.{want_of}
 use Rattle.module_manager.specs.Modules.{fault_in, module_at, module_state_number}

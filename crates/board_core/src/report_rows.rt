@@ -7,7 +7,7 @@ ghost use Rattle.std.specs.Option.{option_map, option_to_list};
 ghost use Rattle.tx_types.specs.Limits.{device_limit, slot_limit};
 ghost use Rattle.board_values.specs.declared.report.ThreadRow.{ThreadRow};
 ghost use Rattle.kernel_state.specs.Kernel.{is_thread};
-ghost use Rattle.kernel_state.specs.Rows.{object_row};
+ghost use Rattle.kernel_state.specs.ObjectReport.{object_row};
 ghost use Rattle.module_manager.specs.Modules.{fault_in, module_at};
 ghost use Rattle.board_core.specs.Report.{rows_below, rows_found, device_row, fault_row, module_row, row_of_thread, thread_row};
 

@@ -21,11 +21,11 @@ use Rattle.kernel_state.specs.declared.answer.Answer.{Answer}
 use Rattle.kernel_state.specs.declared.answer.Answer.TheVariants.{Code, Value, Waits, Ended}
 use Rattle.kernel_state.specs.declared.kernel.Kernel.{Kernel}
 use Rattle.kernel_state.specs.declared.thread.Thread.{Thread}
-use Rattle.thread_calls.specs.Rows.{EachRowIsOne}
+use Rattle.thread_calls.specs.Services.{EachRowIsOne}
 use Rattle.call_dispatch.specs.Caller.{CallChangesA0Alone, ChangesA0Alone}
 use Rattle.call_dispatch.specs.Ecall.{dispatched, with_answer}
 use Rattle.call_dispatch.specs.Laws.{CallWritesItsResultAlone, RefusalChangesNothing, RefusedCallChangesA0Alone, NoRowChangesA0Alone, CallChangesSlotsOnce, CallRaisesCountsByOne, CallCallsWaits}
-use Rattle.call_dispatch.specs.Rows.{call_result, call_row, row_asked, row_writes, rows}
+use Rattle.call_dispatch.specs.Services.{call_result, call_row, row_asked, row_writes, rows}
 use Rattle.call_dispatch.proofs.Numbers.{find_holds}
 
 -- the laws of the layers below

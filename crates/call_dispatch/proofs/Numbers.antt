@@ -5,7 +5,7 @@ use Rattle.std.proofs.lemmas.List.Elements.{All-cons, All-head, All-nil, All-tai
 use Rattle.ready_maps.specs.Sched.{has}
 use Rattle.kernel_state.specs.Row.{Row, row_of}
 use Rattle.call_dispatch.specs.Laws.{NumberNamesItsRow, RowHasItsNumber}
-use Rattle.call_dispatch.specs.Rows.{all_differ, row_asked, rows}
+use Rattle.call_dispatch.specs.Services.{all_differ, row_asked, rows}
 
 -- what is found passes the test, and what holds of each element holds of it
 pub find_passes : (test : Row → Bool) (xs : List Row) (r : Row) → find test xs ≡ Some r → test r ≡ true

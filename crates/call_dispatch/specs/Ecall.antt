@@ -7,7 +7,7 @@ use Rattle.kernel_state.specs.Registers.{arguments, number_asked, with_a0}
 use Rattle.kernel_state.specs.declared.answer.Answer.{Answer}
 use Rattle.kernel_state.specs.declared.answer.Answer.TheVariants.{Code, Value, Waits, Ended}
 use Rattle.kernel_state.specs.declared.kernel.Kernel.{Kernel}
-use Rattle.call_dispatch.specs.Rows.{call_row}
+use Rattle.call_dispatch.specs.Services.{call_row}
 
 -- a status or a value is the caller's a0; who waits gets it later, and who has ended never
 unfoldable pub with_answer : Kernel → ℕ → Answer → Kernel

@@ -13,7 +13,7 @@ use Rattle.kernel_state.specs.WaitCalls.{CallsWaits}
 use Rattle.kernel_state.specs.declared.answer.Answer.TheVariants.{Code}
 use Rattle.kernel_state.specs.declared.kernel.Kernel.{Kernel}
 use Rattle.call_dispatch.specs.Ecall.{dispatched}
-use Rattle.call_dispatch.specs.Rows.{call_result, call_row, row_asked, rows}
+use Rattle.call_dispatch.specs.Services.{call_result, call_row, row_asked, rows}
 
 -- each row is found by its number, and by no other
 abbrev pub NumberNamesItsRow : Type 0

@@ -1,4 +1,4 @@
 pub mod Caller
 pub mod Ecall
 pub mod Laws
-pub mod Rows
+pub mod Services

@@ -10,7 +10,7 @@ ghost use Rattle.call_dispatch.specs.Caller.{ChangesA0Alone};
 ghost use Rattle.call_dispatch.specs.Ecall.{with_answer, dispatched};
 
 use crate::laws::a_call_changes_its_a0_alone;
-use crate::rows::call;
+use crate::services::call;
 use kernel_state::{Answer, Kernel, arguments, number_asked};
 use region_guard::Guard;
 use tx_types::ThreadNo;

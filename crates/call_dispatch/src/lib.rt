@@ -6,6 +6,6 @@
 
 mod ecall;
 pub mod laws;
-mod rows;
+mod services;
 
 pub use ecall::dispatch;

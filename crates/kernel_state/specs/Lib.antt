@@ -3,13 +3,13 @@ pub mod Entries
 pub mod Kernel
 pub mod Laws
 pub mod Lending
+pub mod ObjectReport
 pub mod Outcome
 pub mod Range
 pub mod Readying
 pub mod Registers
 pub mod Room
 pub mod Row
-pub mod Rows
 pub mod Scheduling
 pub mod Serves
 pub mod Sound

@@ -2,7 +2,7 @@
 use Rattle.std.proofs.lemmas.List.Elements.{All-append}
 use Rattle.kernel_state.specs.Row.{IsRow}
 use Rattle.thread_calls.specs.ObjectRows.{object_rows}
-use Rattle.thread_calls.specs.Rows.{EachRowIsOne}
+use Rattle.thread_calls.specs.Services.{EachRowIsOne}
 use Rattle.thread_calls.specs.ThreadRows.{thread_rows}
 use Rattle.thread_calls.proofs.ObjectRows.{object_rows_are_rows}
 use Rattle.thread_calls.proofs.Parts.{Parts}

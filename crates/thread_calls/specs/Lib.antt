@@ -2,5 +2,5 @@ pub mod Create
 pub mod Laws
 pub mod Numbers
 pub mod ObjectRows
-pub mod Rows
+pub mod Services
 pub mod ThreadRows

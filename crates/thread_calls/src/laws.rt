@@ -2,7 +2,7 @@
 //!
 //! Their bodies do nothing; a function calls one where its proof needs the law.
 ghost use Rattle.thread_calls.specs.Laws.{ThresholdKeepsSound, PriorityKeepsSound, SliceKeepsSound, YieldKeepsSound, AllocateKeepsSound, DeallocateKeepsSound, GrantKeepsSound};
-ghost use Rattle.thread_calls.specs.Rows.{EachRowIsOne};
+ghost use Rattle.thread_calls.specs.Services.{EachRowIsOne};
 
 use kernel_state::laws::{
     a_change_calls_waits, a_change_raises_counts_by_one, a_kernel_stays_sound,

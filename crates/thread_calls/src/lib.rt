@@ -9,7 +9,7 @@ pub mod laws;
 mod numbers;
 mod objects;
 mod resuming;
-mod serving;
+mod services;
 mod threads;
 mod waits;
 
@@ -19,7 +19,7 @@ pub use numbers::{
 };
 pub use objects::{object_allocate, object_deallocate, object_pointer_get};
 pub use resuming::resume_object;
-pub use serving::serve;
+pub use services::serve;
 pub use threads::{
     thread_complete, thread_delete, thread_identify, thread_relinquish, thread_reset,
     thread_resume, thread_suspend, thread_terminate,

@@ -1,5 +1,5 @@
 use Rattle.std.proofs.Common.{◌≡◌}
-use Rattle.kernel_state.specs.Rows.{object_row}
+use Rattle.kernel_state.specs.ObjectReport.{object_row}
 use Rattle.board_core.specs.Report.{rows_found}
 use Rattle.board_core.proofs.report_rows.object_rows.Given as goal
 

@@ -7,7 +7,7 @@ use Rattle.kernel_state.specs.Outcome.{Outcome}
 use Rattle.kernel_state.specs.Range.{Range, allowed}
 use Rattle.kernel_state.specs.Row.{Row, called, row_of}
 use Rattle.kernel_state.specs.declared.kernel.Kernel.{Kernel}
-use Rattle.thread_calls.specs.Rows.{rows as thread_rows}
+use Rattle.thread_calls.specs.Services.{rows as thread_rows}
 
 abbrev pub rows : List Row
 rows = thread_rows

@@ -6,7 +6,7 @@ ghost use Rattle.std.specs.Option.{option_map};
 ghost use Rattle.kernel_state.specs.Room.{HasRoom};
 ghost use Rattle.kernel_state.specs.Row.{called, row_of};
 ghost use Rattle.kernel_state.specs.Serves.{Serves};
-ghost use Rattle.thread_calls.specs.Rows.{rows};
+ghost use Rattle.thread_calls.specs.Services.{rows};
 
 use crate::create::thread_create;
 use crate::numbers::{

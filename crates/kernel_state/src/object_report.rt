@@ -3,7 +3,7 @@
 //! The kernel is read and never changed. The three numbers of an object are 0 and none waits for
 //! it, since such objects have no services of their own.
 ghost use Rattle.std.specs.Prelude.{◌≡◌, IfOk};
-ghost use Rattle.kernel_state.specs.Rows.{has_object, object_row, row_of_slot};
+ghost use Rattle.kernel_state.specs.ObjectReport.{has_object, object_row, row_of_slot};
 
 use crate::Kernel;
 use board_values::{ObjectRow, Rows};
@@ -37,7 +37,7 @@ fn row_of_slot(alloc: Global, o: ObjNo, slot: &Slot) -> Result<ObjectRow, NoMemo
 impl Kernel {
     /// The row of a report on the object of a slot. None exactly where the slot has no object, or a
     /// thread.
-    #[tactic(auto, unfolding(crate::specs::Rows::object_row))]
+    #[tactic(auto, unfolding(crate::specs::ObjectReport::object_row))]
     pub fn object_row(&self, alloc: Global, o: ObjNo) -> Result<Option<ObjectRow>, NoMemory>
         ensures { IfOk result (λ row. row ≡ object_row self.now o) }
     {

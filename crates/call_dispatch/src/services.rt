@@ -4,7 +4,7 @@
 ghost use Rattle.std.specs.Prelude.{◌≡◌, Some};
 ghost use Rattle.kernel_state.specs.Room.{HasRoom};
 ghost use Rattle.kernel_state.specs.Serves.{Serves};
-ghost use Rattle.call_dispatch.specs.Rows.{call_row};
+ghost use Rattle.call_dispatch.specs.Services.{call_row};
 
 use kernel_state::{Answer, Args, Kernel};
 use region_guard::Guard;
@@ -13,7 +13,7 @@ use tx_types::{Code, ThreadNo};
 
 /// Calls the service of a number. FEATURE_NOT_ENABLED comes where the number has no row, and then
 /// nothing changes.
-#[tactic(auto, unfolding(crate::specs::Rows::call_row, crate::specs::Rows::row_asked))]
+#[tactic(auto, unfolding(crate::specs::Services::call_row, crate::specs::Services::row_asked))]
 pub(crate) fn call(k: &mut Kernel, g: &mut Guard, by: ThreadNo, number: u32, a: &Args) -> Answer
     requires serves { Serves k.old g.old }
     requires runs { k.old.ready.run ≡ Some by }
