@@ -447,7 +447,27 @@ an unknown key|module[0].size|[[module]]\nname = "one"\nimage = "p1.img"\nsize =
 a key of controls and blanks|module[0].a.b..c|[[module]]\nname = "one"\nimage = "p1.img"\n"a b\\u001B\\u0007c" = 1\n
 a key that is no ASCII|module[0]...|[[module]]\nname = "one"\nimage = "p1.img"\n"é" = 1\n
 a share|share|share = []\n[[module]]\nname = "one"\nimage = "p1.img"\n
-an action that is not built|device[0].action|[[module]]\nname = "one"\nimage = "p1.img"\n[[device]]\nname = "uart"\naction = "queue"\ntarget = "uart"\nscript = []\n
+ROWS
+
+# a device of these lines, on a board of one module
+device() { printf 'ram = 4096\nsteps = 0\n[[module]]\nname = "one"\nimage = "p1.img"\n[[device]]\nname = "d"\n'; printf "$1"; }
+board 'a device that makes ticks' 0 "$one_text" < <(device 'action = "tick"\nscript = [4294967295]\nrepeat = 2\n')
+while IFS='|' read -r name field lines; do
+    board "$name" 3 "refused board: device[0].$field" < <(device "$lines")
+done <<'ROWS'
+ticks with a target|target|action = "tick"\ntarget = "one"\nscript = []\n
+ticks with an empty target|target|action = "tick"\ntarget = ""\nscript = []\n
+ticks with a target that is no text|target|action = "tick"\ntarget = 1\nscript = []\n
+ticks with a target and no script|target|action = "tick"\ntarget = "one"\n
+ticks without a script|script|action = "tick"\n
+an action of another case|action|action = "Tick"\nscript = []\n
+no action|action|script = []\n
+a resume without a target|target|action = "resume"\nscript = []\n
+an action that is not built: semaphore|action|action = "semaphore"\ntarget = "one"\nscript = []\n
+an action that is not built: events|action|action = "events"\ntarget = "one"\nscript = []\n
+an action that is not built: queue|action|action = "queue"\ntarget = "one"\nscript = []\n
+an action that is not built: start|action|action = "start"\ntarget = "one"\nscript = []\n
+an action that is not built: stop|action|action = "stop"\ntarget = "one"\nscript = []\n
 ROWS
 
 board 'a key of 60,000 bytes' 3 "refused board: module[0].${long:0:60000}" \
@@ -602,6 +622,27 @@ for log in "$top"/tests/sessions/*/*.log; do
     folder=$(dirname "$log") name=$(basename "$log" .log)
     session "$(basename "$folder")/$name" "$folder" board.toml "$name.log" "$name.expected"
 done
+# As many ticks as a log may have, on a module that sleeps ten at a time: it calls for its first sleep in 3 steps and for each other
+# one in 7, which is after 65,530 ticks for the last time; at the end four ticks of that sleep are left.
+mkdir "$work/ticks" && cp "$top"/tests/sessions/telemetry/{board.toml,telemetry.img} "$work/ticks"
+{
+    echo 'S 3'
+    for ((tick = 1; tick <= 65536; tick++)); do
+        echo 'I 0 00000000'
+        if ((tick % 10 == 0)); then echo 'S 7'; fi
+    done
+} >"$work/ticks/log"
+{
+    cat "$work/ticks/log"
+    printf 'report\nevents steps 45874 irqs 65536 ticks 65536 clock 65536\nrunning -\nheld\nready\n'
+    printf 'waits begun 6554 satisfied 0 timedout 6553 aborted 0 deleted 0 gone 0\nmodule 0 one state 1 queued 0 dropped 0\n'
+    printf 'thread 0 module 0 start state 4 priority 12 12 threshold 12 12 slice 0 0 pc 8000008c\n'
+    printf 'regs 00000000 800001e0 800000a0 00000000 00000000 00001999 00000000 00000000 00000000 0000000a %s %s' "$zeros4" \
+        '00000000 00000000 00000015'
+    printf ' 00000000 00000000 %s %s %s\n' "$zeros4" "$zeros4" "$zeros4"
+    printf 'device 0 tick taken 65536 last 00\nshow 0 00001999\nend\n'
+} >"$work/ticks/expected"
+session '65,536 ticks' "$work/ticks" board.toml log expected
 session 'examples/asm' "$top" examples/two.board.toml examples/two.log examples/two.expected
 session 'examples/c' "$top" examples/c/board.toml examples/c/session.log examples/c/session.expected
 sed '/^report$/,$d' "$top/examples/two.expected" >"$work/log"
@@ -678,6 +719,13 @@ live 'more words than the inbox holds' 100 "a|script = [$many]" 'b|script = [1, 
 raised 0 {1..300}
 raised 1 1 2 3
 expect 'live: how many were taken' 0 "$(live_report 100 303 '0 a taken 300 last 0e' '1 b taken 3 last 0e')" reported
+
+# how often a module sleeps depends on when the ticks come, but not how many of them there are
+sed 's/^steps = 0/steps = 200/; s/^script = .*/script = [1, 2, 3, 4, 5, 6]\nrepeat = 5/' "$work/ticks/board.toml" >"$work/ticks/live.toml"
+expect 'live: ticks' 0 '' from "$work/ticks" lives live.toml
+raised 0 {1..6} {1..6} {1..6} {1..6} {1..6}
+expect 'live: how many ticks were made' 0 'events steps 200 irqs 30 ticks 30 clock 30
+device 0 tick taken 30 last 00' sed -n '/^events /p; /^device /p' "$work/live"
 
 # in so few KiB of addresses the host starts no thread, as no stack has room, or that of one device alone; a device
 # without one is turned by the caller, one word after each turn of the kernel

@@ -1,6 +1,6 @@
 #!/usr/bin/env bash
-# Live runs of a board with three modules and four devices: each ends well, and the log that it printed is replayed to
-# the same text. Outside of the gate. Calls: tests/live.sh [RUNS] [FIRST SEED]; a seed gives the steps and the scripts.
+# Live runs of a board with four modules and five devices, one of which makes ticks: each ends well, and the log that it printed is
+# replayed to the same text. Outside of the gate. Calls: tests/live.sh [RUNS] [FIRST SEED]; a seed gives the steps and the scripts.
 set -u
 export LC_ALL=C
 top=$(cd "$(dirname "${BASH_SOURCE[0]}")/.." && pwd)
@@ -8,7 +8,7 @@ txboard=$top/crates/txboard/out/txboard
 runs=${1:-100} first=${2:-1}
 work=$(mktemp -d) || exit 1
 trap 'rm -rf "$work"' EXIT
-cp "$top"/examples/asm/{meter,radio}.img "$top/examples/p1.img" "$work"
+cp "$top"/examples/asm/{meter,radio}.img "$top/examples/p1.img" "$top/tests/sessions/telemetry/telemetry.img" "$work"
 "$top/txboard" >"$work/usage" </dev/null
 
 # board SEED: up to 20,000 steps, and devices with up to 400 words each
@@ -16,11 +16,13 @@ board() {
     local image device words
     RANDOM=$1
     printf 'ram = 1048576\nsteps = %s\n' $((RANDOM % 20001))
-    for image in meter radio p1; do
+    for image in meter radio p1 telemetry; do
         printf '[[module]]\nname = "%s"\nimage = "%s.img"\nstart = true\n' "$image" "$image"
     done
-    for device in a b c d; do
-        printf '[[device]]\nname = "%s"\naction = "resume"\ntarget = "start"\nscript = [' "$device"
+    for device in a b c d tick; do
+        printf '[[device]]\nname = "%s"\n' "$device"
+        if [ "$device" = tick ]; then printf 'action = "tick"\n'; else printf 'action = "resume"\ntarget = "start"\n'; fi
+        printf 'script = ['
         for ((words = RANDOM % 401; words > 0; words--)); do printf '%s, ' "$RANDOM"; done
         printf ']\n'
     done
