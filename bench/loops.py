@@ -1,5 +1,5 @@
 #!/usr/bin/env python3
-"""Writes the images of four loops into a folder: loops.py FOLDER. Each loop runs for ever."""
+"""Writes images into a folder: loops.py FOLDER. Four are loops that run for ever; of three others 1, 16 and 250 threads sleep."""
 import pathlib
 import struct
 import sys
@@ -120,7 +120,38 @@ COUNTING = [
     jump(ZERO, -12),
 ]
 
+CALL = 0x00000073  # ecall
+A0, A1, A2, A7, LEFT = 10, 11, 12, 17, 9
+
+
+def call(number):
+    return [addi(A7, ZERO, number), CALL]
+
+
+def sleepers(number):
+    """Makes so many threads, each of which sleeps for the most ticks as soon as it is made, and completes.
+
+    All threads begin at one entry, and a thread that is made has the input 1. They have one stack, which they don't use.
+    """
+    # the block of a thread at 16 of the data: entry, input, stack, size, priority, threshold, time slice, started at once
+    prepared = [
+        addi(LEFT, ZERO, number),
+        addi(A, ZERO, 1), addi(B, GP, 64), addi(C, ZERO, 64),
+        store(2, A0, GP, 16), store(2, A, GP, 20), store(2, B, GP, 24), store(2, C, GP, 28),
+        store(2, A, GP, 32), store(2, A, GP, 36), store(2, ZERO, GP, 40), store(2, A, GP, 44),
+    ]
+    made = [
+        addi(A0, ZERO, 1), addi(A1, GP, 0), *call(0x01),  # object_allocate
+        load(2, A0, GP, 0), addi(A1, ZERO, 0), addi(A2, GP, 16), *call(0x10),  # thread_create
+        addi(LEFT, LEFT, -1),
+    ]
+    made += [branch(1, LEFT, ZERO, -4 * len(made))]  # bne
+    start = [*prepared, *made, *call(0x1F)]  # thread_complete
+    return [branch(1, A1, ZERO, 4 * len(start) + 4), *start, addi(A0, ZERO, -1), *call(0x15)]  # thread_sleep
+
+
 LOOPS = {"counting": COUNTING, "arithmetic": ARITHMETIC, "memory": MEMORY, "division": DIVISION}
+SLEEPERS = {f"sleepers{number}": sleepers(number) for number in (1, 16, 250)}
 
 
 def image(code):
@@ -132,5 +163,5 @@ def image(code):
 if __name__ == "__main__":
     if len(sys.argv) != 2:
         sys.exit("usage: loops.py FOLDER")
-    for name, code in LOOPS.items():
+    for name, code in {**LOOPS, **SLEEPERS}.items():
         (pathlib.Path(sys.argv[1]) / f"{name}.img").write_bytes(image(code))
