@@ -5,7 +5,7 @@
 ghost use Rattle.std.specs.Prelude.{◌≡◌, IfOk};
 ghost use Rattle.soft_timers.specs.Timers.{IsRunning};
 ghost use Rattle.kernel_state.specs.Serves.{Serves};
-ghost use Rattle.kernel_state.specs.Sound.{IsSound, IsWait};
+ghost use Rattle.kernel_state.specs.Sound.{IsSound};
 
 use call_dispatch::dispatch;
 use flat_ram::Ram;
@@ -20,9 +20,8 @@ use rv_core::{Cause, Hart};
 use std::alloc::Global;
 use std::marker::Model;
 use std::test::Fail;
-use suspend_lists::{Asks, On, Wait};
 use thread_calls::laws::a_change_of_slots_keeps_sound;
-use tx_types::{Code, Kind, ModNo, Name, ObjNo, Prio, ThreadNo, Thresh};
+use tx_types::{Kind, ModNo, Name, ObjNo, Prio, ThreadNo, Thresh};
 
 /// Modules, a kernel and its memory.
 #[derive(Drop)]
@@ -92,9 +91,14 @@ impl Board {
         call(&mut self.k, &mut self.g, service, a)
     }
 
-    /// The running thread begins to sleep.
-    pub fn sleep(&mut self) -> bool {
-        sleep(&mut self.k, &self.g)
+    /// A tick comes.
+    pub fn tick(&mut self) -> bool {
+        tick(&mut self.k, &mut self.g)
+    }
+
+    /// The clock is set.
+    pub fn set_clock(&mut self, clock: u32) {
+        set_clock(&mut self.k, clock);
     }
 
     /// The running thread writes a register.
@@ -209,6 +213,9 @@ fn call(k: &mut Kernel, g: &mut Guard, service: u32, a: [u32; 3]) -> Option<u32>
     requires { Serves k.old g.old }
     ensures { Serves k.new g.new }
 {
+    if !k.has_room() {
+        return None;
+    }
     let t = k.running()?;
     ask(k, t, service, a);
     dispatch(k, g, t);
@@ -220,6 +227,7 @@ fn ask(k: &mut Kernel, t: ThreadNo, service: u32, a: [u32; 3])
     requires { IsSound k.old }
     ensures sound { IsSound k.new }
     ensures ready { k.new.ready ≡ k.old.ready }
+    ensures waits { k.new.waits ≡ k.old.waits }
     ensures wheel { k.new.wheel ≡ k.old.wheel }
 {
     a_kernel_stays_sound();
@@ -231,34 +239,26 @@ fn ask(k: &mut Kernel, t: ThreadNo, service: u32, a: [u32; 3])
     *k.hart_mut(t) = hart;
 }
 
-/// The running thread begins to sleep; no tick ends it.
-fn sleep(k: &mut Kernel, g: &Guard) -> bool
-    requires { Serves k.old g.now }
-    ensures { Serves k.new g.now }
+/// A tick comes, where there is room for one.
+fn tick(k: &mut Kernel, g: &mut Guard) -> bool
+    requires { Serves k.old g.old }
+    ensures { Serves k.new g.new }
 {
-    who_runs_is_a_thread();
-    let _ = g;
-    let Some(t) = k.running() else {
-        return false;
-    };
     let may = k.has_room();
     if may {
-        let asked = k.effective_priority(t);
-        k.begin_wait(t, asleep(asked), 1);
+        k.advance_clock(g);
     }
     may
 }
 
-/// A sleep.
-fn asleep(asked: Prio) -> Wait
-    ensures { IsWait result }
+/// Nothing that has to hold of a kernel speaks of its clock.
+fn set_clock(k: &mut Kernel, clock: u32)
+    requires { IsSound k.old }
+    ensures sound { IsSound k.new }
+    ensures wheel { k.new.wheel ≡ k.old.wheel }
 {
-    Wait {
-        on: On::Sleep,
-        asks: Asks::Sleep,
-        code: Code::SUCCESS,
-        asked,
-    }
+    a_kernel_stays_sound();
+    k.clock = clock;
 }
 
 fn set(k: &mut Kernel, r: u8, value: u32) -> bool

@@ -23,6 +23,8 @@ mod objects;
 #[cfg(test)]
 mod pair;
 #[cfg(test)]
+mod sleeps;
+#[cfg(test)]
 mod states;
 #[cfg(test)]
 mod steps;

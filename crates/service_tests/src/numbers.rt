@@ -1,6 +1,6 @@
 //! A thread's numbers are read and changed.
 //!
-//! Refused calls have to leave each number as it was. No tick comes, so no time slice runs down.
+//! Refused calls have to leave each number as it was. No tick comes here, so no time slice runs down.
 
 use crate::names::{
     INVALID_MEMORY, OBJECT_ALLOCATE, PRIORITY_ERROR, PTR_ERROR, SUCCESS, THREAD_CREATE,

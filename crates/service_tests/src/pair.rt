@@ -5,7 +5,7 @@
 
 use crate::board::{Area, Board, Running};
 use crate::steps::{Test, play};
-use crate::{calls, create, numbers, objects, states};
+use crate::{calls, create, numbers, objects, sleeps, states};
 use region_guard::Rights;
 use std::alloc::Global;
 use std::process::Abort;
@@ -70,6 +70,7 @@ fn services_answer_as_told(rt: HostRuntime) -> Result<(), Fail> {
         create::TESTS,
         numbers::TESTS,
         states::TESTS,
+        sleeps::TESTS,
         calls::TESTS,
     ] {
         play_each(&rt, rt.alloc(), tests)?;

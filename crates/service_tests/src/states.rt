@@ -1,13 +1,13 @@
 //! Threads are suspended, resumed, ended, reset and deleted.
 //!
-//! The one wait is a sleep, and no tick comes to end it.
+//! The only waits are sleeps.
 
 use crate::names::{
     CALLER_ERROR, DELETE_ERROR, NOT_DONE, OBJECT_ALLOCATE, OBJECT_DEALLOCATE, OBJECT_POINTER_GET,
     RESUME_ERROR, SUCCESS, SUSPEND_ERROR, SUSPEND_LIFTED, THREAD_COMPLETE, THREAD_CREATE,
     THREAD_DELETE, THREAD_ERROR, THREAD_IDENTIFY, THREAD_INFO_GET, THREAD_PREEMPTION_CHANGE,
-    THREAD_PRIORITY_CHANGE, THREAD_RELINQUISH, THREAD_RESET, THREAD_RESUME, THREAD_SUSPEND,
-    THREAD_TERMINATE, THREAD_TIME_SLICE_CHANGE,
+    THREAD_PRIORITY_CHANGE, THREAD_RELINQUISH, THREAD_RESET, THREAD_RESUME, THREAD_SLEEP,
+    THREAD_SUSPEND, THREAD_TERMINATE, THREAD_TIME_SLICE_CHANGE, THREAD_WAIT_ABORT,
 };
 use crate::pair::{BLOCK, CODE, DATA, MAIN, OTHER, OTHER_DATA, WORDS};
 use crate::steps::{Mark, Step, Test};
@@ -15,21 +15,21 @@ use object_grants::SlotState;
 use tx_types::State;
 
 /// MAIN allocates the slots 2 and 3 for threads, and writes the block.
-const SLOTS: &[Step] = &[
+pub const SLOTS: &[Step] = &[
     Step::Call(OBJECT_ALLOCATE, [1, DATA, 0], SUCCESS),
     Step::Call(OBJECT_ALLOCATE, [1, DATA, 0], SUCCESS),
     Step::Put(0, BLOCK, &WORDS),
 ];
 
 /// Thread 0x102 of a priority and threshold is ready.
-const AT_5: &[Step] = &[
+pub const AT_5: &[Step] = &[
     Step::Put(0, BLOCK + 16, &[5]),
     Step::Put(0, BLOCK + 20, &[5]),
     Step::Put(0, BLOCK + 28, &[1]),
     Step::Call(THREAD_CREATE, [0x102, 0, BLOCK], SUCCESS),
 ];
 
-const AT_10: &[Step] = &[
+pub const AT_10: &[Step] = &[
     Step::Put(0, BLOCK + 16, &[10]),
     Step::Put(0, BLOCK + 20, &[10]),
     Step::Put(0, BLOCK + 28, &[1]),
@@ -69,7 +69,7 @@ const THE_CALLER_IS_SUSPENDED_AND_RESUMED: &[Step] = &[
 
 const A_WAITING_THREAD_IS_SUSPENDED_LATER: &[Step] = &[
     Step::Runs(Some(2)),
-    Step::Sleeps,
+    Step::Call(THREAD_SLEEP, [2, 0, 0], 2),
     Step::Runs(Some(0)),
     Step::Call(THREAD_RESUME, [0x102, 0, 0], RESUME_ERROR),
     Step::Call(THREAD_DELETE, [0x102, 0, 0], DELETE_ERROR),
@@ -89,10 +89,25 @@ const ITS_SUSPENSION_IS_LIFTED: &[Step] = &[
     Step::Call(THREAD_RESUME, [0x102, 0, 0], RESUME_ERROR),
 ];
 
+const IT_IS_SUSPENDED_AT_LAST: &[Step] = &[
+    Step::Call(THREAD_SUSPEND, [0x102, 0, 0], SUCCESS),
+    Step::Ticks(1),
+    Step::State(2, State::Sleep, Mark::Held),
+    Step::Ticks(1),
+    Step::State(2, State::Suspended, Mark::None),
+    Step::Register(2, 10, SUCCESS),
+    Step::Runs(Some(0)),
+    Step::Call(THREAD_RESUME, [0x102, 0, 0], SUCCESS),
+    Step::Runs(Some(2)),
+];
+
 const ITS_SUSPENSION_ENDS_WITH_IT: &[Step] = &[
+    Step::Call(THREAD_SLEEP, [1, 0, 0], 1),
     Step::Call(THREAD_SUSPEND, [0x102, 0, 0], SUCCESS),
     Step::Call(THREAD_TERMINATE, [0x102, 0, 0], SUCCESS),
+    Step::Ticks(1),
     Step::State(2, State::Terminated, Mark::None),
+    Step::Waits([2, 0, 1, 0, 0, 1]),
     Step::Call(THREAD_RESUME, [0x102, 0, 0], RESUME_ERROR),
     Step::Call(THREAD_RESET, [0x102, 0, 0], SUCCESS),
     Step::Call(THREAD_RESUME, [0x102, 0, 0], SUCCESS),
@@ -205,6 +220,7 @@ const ON_A_THREAD: &[u32] = &[
     THREAD_PREEMPTION_CHANGE,
     THREAD_PRIORITY_CHANGE,
     THREAD_TIME_SLICE_CHANGE,
+    THREAD_WAIT_ABORT,
     THREAD_RESET,
 ];
 
@@ -254,6 +270,7 @@ pub const TESTS: &[Test] = &[
             AT_5,
             A_WAITING_THREAD_IS_SUSPENDED_LATER,
             ITS_SUSPENSION_IS_LIFTED,
+            IT_IS_SUSPENDED_AT_LAST,
             ITS_SUSPENSION_ENDS_WITH_IT,
         ],
     ),

@@ -36,8 +36,10 @@ pub enum Step {
     Slots(u32, u32),
     /// No thread runs, so none calls.
     NobodyCalls,
-    /// The running thread begins to sleep.
-    Sleeps,
+    /// So many ticks come.
+    Ticks(u32),
+    /// The clock is set.
+    SetClock(u32),
     /// The running thread writes a register.
     Sets(u8, u32),
     /// A module writes words from an address on.
@@ -78,6 +80,9 @@ pub enum Step {
     Name(u16, &'static [u8]),
     /// A thread's module.
     Module(u16, u8),
+    /// How many waits began, and how many ended satisfied, timed out, aborted, deleted and gone.
+    Waits([u64; 6]),
+    Clock(u32),
     /// The number of a module's state: 0 loaded, 1 started, 2 stopped, 3 faulted.
     ModuleState(u8, u8),
     /// A module's fault: its thread, the cause and the address.
@@ -122,7 +127,7 @@ fn take(b: &mut Board, step: Step) -> bool {
         Step::Create(changes, a0) => create(b, changes, a0),
         Step::Slots(from, to) => allocate(b, from, to),
         Step::NobodyCalls => b.call(THREAD_IDENTIFY, [0, 0, 0]).is_none(),
-        Step::Sleeps => b.sleep(),
+        Step::Ticks(n) => ticks(b, n),
         Step::Sets(r, value) => b.set(r, value),
         _ => happens(b, step),
     }
@@ -130,6 +135,10 @@ fn take(b: &mut Board, step: Step) -> bool {
 
 fn happens(b: &mut Board, step: Step) -> bool {
     match step {
+        Step::SetClock(clock) => {
+            b.set_clock(clock);
+            true
+        }
         Step::Put(m, a, words) => put(b, module(m), a, words),
         Step::PutName(m, a, name) => put_name(b, module(m), a, name),
         Step::Start(m, answer) => b.start(module(m)) == Some(answer),
@@ -163,6 +172,15 @@ fn allocate(b: &mut Board, from: u32, to: u32) -> bool {
     for o in from..to {
         let answer = b.call(OBJECT_ALLOCATE, [4, DATA, 0]);
         if answer != Some(SUCCESS) || word(b.guard(), module(0), DATA) != Some(0x100 | o) {
+            return false;
+        }
+    }
+    true
+}
+
+fn ticks(b: &mut Board, n: u32) -> bool {
+    for _ in 0..n {
+        if !b.tick() {
             return false;
         }
     }
@@ -228,6 +246,8 @@ fn shows_threads(k: &Kernel, step: Step) -> bool {
         Step::Register(t, r, value) => k.hart(object(t)).get(r % 32) == value,
         Step::Opening(t, pc, registers) => opens(k, object(t), pc, registers),
         Step::Module(t, m) => k.module_of(object(t)).number() == m,
+        Step::Waits(totals) => totals_of(k) == totals,
+        Step::Clock(clock) => k.clock == clock,
         _ => false,
     }
 }
@@ -297,6 +317,18 @@ fn numbers_of(k: &Kernel, t: ThreadNo) -> [u32; 6] {
         u32::from(k.ready.threshold(t).number()),
         thread.slice,
         thread.left,
+    ]
+}
+
+fn totals_of(k: &Kernel) -> [u64; 6] {
+    let totals = k.waits.totals();
+    [
+        totals.begun,
+        totals.satisfied,
+        totals.timed_out,
+        totals.aborted,
+        totals.deleted,
+        totals.gone,
     ]
 }
 
