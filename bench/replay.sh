@@ -36,7 +36,7 @@ for loop in counting arithmetic memory division; do
             100 * alone / board, 100 * plain / alone }'
 done
 
-# board SLEEPERS: a board on which so many sleep; where nobody does its module isn't started
+# board SLEEPERS: a board with that number of sleepers; where there is none its module isn't started
 board() {
     local image=sleepers$1 start=true
     if [ "$1" = 0 ]; then image=sleepers1 start=false; fi
