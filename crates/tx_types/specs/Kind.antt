@@ -1,7 +1,8 @@
 -- The kinds of kernel objects and their numbers, which are this board's own.
 use Rattle.std.specs.Prelude.{ℕ, List, [], ◌∷◌, ◌==◌, Option, find}
 use Rattle.tx_types.specs.declared.kind.Kind.{Kind}
-use Rattle.tx_types.specs.declared.kind.Kind.TheVariants.{Thread, Queue, Semaphore, Mutex, Events, BytePool, BlockPool, Timer}
+use Rattle.tx_types.specs.declared.kind.Kind.TheVariants.{Thread, Queue, Semaphore, Mutex, Events}
+use Rattle.tx_types.specs.declared.kind.Kind.TheVariants.{BytePool, BlockPool, Timer}
 
 abbrev pub kind_number : Kind → ℕ
 kind_number Thread = 1

@@ -1,7 +1,10 @@
 -- The states of a thread and their numbers (ThreadX API, `tx_api.h`).
 use Rattle.std.specs.Prelude.{ℕ}
 use Rattle.tx_types.specs.declared.state.State.{State}
-use Rattle.tx_types.specs.declared.state.State.TheVariants.{Ready, Completed, Terminated, Suspended, Sleep, QueueSusp, SemaphoreSusp, EventFlag, BlockMemory, ByteMemory, MutexSusp}
+use Rattle.tx_types.specs.declared.state.State.TheVariants.{Ready, Completed, Terminated, Suspended}
+use Rattle.tx_types.specs.declared.state.State.TheVariants.{Sleep, QueueSusp, SemaphoreSusp}
+use Rattle.tx_types.specs.declared.state.State.TheVariants.{EventFlag, BlockMemory, ByteMemory}
+use Rattle.tx_types.specs.declared.state.State.TheVariants.{MutexSusp}
 
 abbrev pub state_number : State → ℕ
 state_number Ready = 0
