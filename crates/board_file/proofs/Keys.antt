@@ -12,8 +12,10 @@ among : (key : List ℕ) (known : List (Bor (List ℕ))) → list_any (bytes_eq 
 among key [] = refl
 among key (k ∷ known) = ap (λ rest. bytes_eq key k.now || rest) (among key known)
 
-pub known_key : (known : List (Bor (List ℕ))) (path : List ℕ) (e : Entry) (es : List Entry) → list_any (λ k. bytes_eq (string_bytes e.0) k.now) known ≡ true → no_key_but (map (λ k. k.now) known) path (members_view (e ∷ es)) ≡ no_key_but (map (λ k. k.now) known) path (members_view es)
+pub known_key : (known : List (Bor (List ℕ))) (path : List ℕ) (e : Entry) (es : List Entry) → list_any (λ k. bytes_eq (string_bytes e.0) k.now) known ≡ true
+    → no_key_but (map (λ k. k.now) known) path (members_view (e ∷ es)) ≡ no_key_but (map (λ k. k.now) known) path (members_view es)
 known_key known path e es h = rw (among (string_bytes e.0) known ∙ h) refl
 
-pub other_key : (known : List (Bor (List ℕ))) (path : List ℕ) (e : Entry) (es : List Entry) → list_any (λ k. bytes_eq (string_bytes e.0) k.now) known ≡ false → no_key_but (map (λ k. k.now) known) path (members_view (e ∷ es)) ≡ Err (key_path path (string_bytes e.0))
+pub other_key : (known : List (Bor (List ℕ))) (path : List ℕ) (e : Entry) (es : List Entry) → list_any (λ k. bytes_eq (string_bytes e.0) k.now) known ≡ false
+    → no_key_but (map (λ k. k.now) known) path (members_view (e ∷ es)) ≡ Err (key_path path (string_bytes e.0))
 other_key known path e es h = rw (among (string_bytes e.0) known ∙ h) refl

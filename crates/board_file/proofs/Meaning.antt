@@ -26,7 +26,8 @@ field_answers due (Err NoMemory) h = tt
 field_answers due (Err NotToml) h = absurd h
 field_answers due (Err (Field path)) h = ap or_field h
 
-pub read_answers : (bytes : List ℕ) (file : Members) (r : Result Board BoardErr) → IsUtf8 bytes → parse_document bytes ≡ Some file → Reads (board_of file) r → Answers (board_in bytes) r
+pub read_answers : (bytes : List ℕ) (file : Members) (r : Result Board BoardErr) → IsUtf8 bytes → parse_document bytes ≡ Some file → Reads (board_of file) r
+    → Answers (board_in bytes) r
 read_answers bytes file r utf8 parsed h =
     subst (λ (due : Result Board BoardErr). Answers due r) (sym (board_in-text bytes file utf8 parsed)) (field_answers (board_of file) r h)
 
@@ -34,7 +35,8 @@ read_answers bytes file r utf8 parsed h =
 pub board_in-none : (bytes : List ℕ) → (IsUtf8 bytes → parse_document bytes ≡ None) → board_in bytes ≡ Err NotToml
 unfolding board_in
 board_in-none bytes none =
-    ap or_not_toml (cond_both (is_utf8 bytes) (parse_document bytes) None (λ (o : Option Members). o ≡ None) (λ text. none (IsUtf8-from_is_utf8 bytes text)) (λ other. refl))
+    ap or_not_toml (cond_both (is_utf8 bytes) (parse_document bytes) None
+    (λ (o : Option Members). o ≡ None) (λ text. none (IsUtf8-from_is_utf8 bytes text)) (λ other. refl))
 
 -- and it keeps the rules
 pub read_rules : (file : Members) (r : Result Board BoardErr) → Reads (board_of file) r → IfOk r IsBoard

@@ -1,5 +1,6 @@
 -- A board that was read keeps the rules of its fields.
-use Rattle.std.proofs.Common.{◌≡◌, ◌⊎◌, ℕ, ◌+◌, ◌*◌, ◌%◌, ◌==◌, ◌&&◌, ◌≤◌, Bool, true, nat_le, List, [], ◌∷◌, ◌++◌, length, position, Option, None, Some, Result, Ok, Err, option_and_then, All, codes, refl, subst, inl, inr, ⊎_elim, arith, length-append}
+use Rattle.std.proofs.Common.{◌≡◌, ◌⊎◌, ℕ, ◌+◌, ◌*◌, ◌%◌, ◌==◌, ◌&&◌, ◌≤◌, Bool, true, nat_le, List, [], ◌∷◌, ◌++◌, length, position, Option, None, Some}
+use Rattle.std.proofs.Common.{Result, Ok, Err, option_and_then, All, codes, refl, subst, inl, inr, ⊎_elim, arith, length-append}
 use Rattle.std.proofs.lemmas.Bool.{cond_both, leb-true}
 use Rattle.std.proofs.lemmas.Bool.Decides.{nat_tests}
 use Rattle.std.proofs.lemmas.List.Elements.{All-nil, All-push}
@@ -7,8 +8,10 @@ use Rattle.std.proofs.lemmas.List.Quantifiers.{position-Some}
 use Rattle.std.proofs.lemmas.List.Sums.{sum_by_push}
 use Rattle.std.specs.Str.{bytes_eq}
 use Rattle.toml.specs.Data.{Data, Items, no_items, item, Members, get_member, as_str, as_array}
-use Rattle.board_file.specs.Board.{action_of, board_of, device_of, module_in, module_of, names_device, repeated, script_within, script_words, show_of, target_of}
-use Rattle.board_file.specs.Field.{◌>>=◌, Part, array_within, as_number, entries, entry_after, forbidden, in_range, items_count, name_unless, named, nothing_else, optional, or_absent, passing, required, table_at, words_of}
+use Rattle.board_file.specs.Board.{action_of, board_of, device_of, module_in, module_of, names_device, repeated, script_within, script_words, show_of}
+use Rattle.board_file.specs.Board.{target_of}
+use Rattle.board_file.specs.Field.{◌>>=◌, Part, array_within, as_number, entries, entry_after, forbidden, in_range, items_count, name_unless, named}
+use Rattle.board_file.specs.Field.{nothing_else, optional, or_absent, passing, required, table_at, words_of}
 use Rattle.board_file.specs.Path.{entry_path, key_path}
 use Rattle.board_file.specs.Rules.{IsBoard, IsShow}
 use Rattle.board_file.specs.declared.board.Board.{Board}
@@ -38,14 +41,16 @@ of_field : {A B : Type 0} (rule : A → Option B) (o : Option A) (y : B) → opt
 of_field rule None y h = absurd (cc)
 of_field rule (Some x) y h = (x, h)
 
-of_present : {A : Type 0} (absent : A) (rule : Data → Option A) (o : Option Data) (y : A) → or_absent absent rule o ≡ Some y → (absent ≡ y) ⊎ ((d : Data) × (rule d ≡ Some y))
+of_present : {A : Type 0} (absent : A) (rule : Data → Option A) (o : Option Data) (y : A) → or_absent absent rule o ≡ Some y
+    → (absent ≡ y) ⊎ ((d : Data) × (rule d ≡ Some y))
 of_present absent rule None y h = inl (cc)
 of_present absent rule (Some d) y h = inr (d, h)
 
 passed : {A : Type 0} (test : A → Bool) (o : Option A) (y : A) → passing test o ≡ Some y → test y ≡ true
 passed test None y h = absurd (cc)
 passed test (Some x) y h =
-    cond_both (test x) (Some x) None (λ (o : Option _). o ≡ Some y → test y ≡ true) (λ yes same. let is : x ≡ y = cc in subst (λ z. test z ≡ true) is yes) (λ no same. absurd (cc)) h
+    cond_both (test x) (Some x) None (λ (o : Option _). o ≡ Some y → test y ≡ true) (λ yes same. let is : x ≡ y = cc in subst (λ z. test z ≡ true) is yes)
+    (λ no same. absurd (cc)) h
 
 pub record InRange (low high step n : ℕ) : Type 0 where
   pub least : low ≤ n
@@ -80,7 +85,8 @@ optional_counted high part key ds h =
     (of_present no_items (array_within 0 high) (get_member key part.fields) ds (named_some (key_path part.path key) _ ds h))
 
 -- each entry of an array is read into one of the list
-length-entries : {A : Type 0} (entry : Part → List A → Result A (List ℕ)) (key : List ℕ) (earlier : List A) (ds : Items) (xs : List A) → entries entry key earlier ds ≡ Ok xs → length xs ≡ length earlier + items_count ds
+length-entries : {A : Type 0} (entry : Part → List A → Result A (List ℕ)) (key : List ℕ) (earlier : List A) (ds : Items) (xs : List A)
+    → entries entry key earlier ds ≡ Ok xs → length xs ≡ length earlier + items_count ds
 length-entries entry key earlier no_items xs h = let same : earlier ≡ xs = cc in subst (λ ys. length ys ≡ length earlier + 0) same (omega arith)
 length-entries {A} entry key earlier (item d ds) xs h =
     let e = then_ok (entry_after entry key earlier d) (λ x. entries entry key (earlier ++ x ∷ []) ds) xs h in
@@ -88,7 +94,9 @@ length-entries {A} entry key earlier (item d ds) xs h =
     omega (arith, rest, length-append earlier (e.0 ∷ []))
 
 -- what each entry keeps, with those before it, holds of the whole list
-entries_keep : {A : Type 0} (P : List A → Type 0) (entry : Part → List A → Result A (List ℕ)) (key : List ℕ) → ((part : Part) (earlier : List A) (x : A) → P earlier → entry part earlier ≡ Ok x → P (earlier ++ x ∷ [])) → (earlier : List A) (ds : Items) (xs : List A) → P earlier → entries entry key earlier ds ≡ Ok xs → P xs
+entries_keep : {A : Type 0} (P : List A → Type 0) (entry : Part → List A → Result A (List ℕ)) (key : List ℕ)
+    → ((part : Part) (earlier : List A) (x : A) → P earlier → entry part earlier ≡ Ok x → P (earlier ++ x ∷ [])) → (earlier : List A) (ds : Items) (xs : List A)
+    → P earlier → entries entry key earlier ds ≡ Ok xs → P xs
 entries_keep P entry key step earlier no_items xs before h = let same : earlier ≡ xs = cc in subst P same before
 entries_keep P entry key step earlier (item d ds) xs before h =
     let e = then_ok (entry_after entry key earlier d) (λ x. entries entry key (earlier ++ x ∷ []) ds) xs h in
@@ -98,12 +106,15 @@ entries_keep P entry key step earlier (item d ds) xs before h =
 -- the scripts so far have room for a script that was accepted
 script_fits : (before n : ℕ) (words script : List ℕ) → script_within before n words ≡ Some script → before + length script ≤ 65536
 script_fits before n words script h =
-    cond_both (nat_le (before + n * length words) 65536) (Some (repeated n words)) None (λ (o : Option (List ℕ)). o ≡ Some script → before + length script ≤ 65536)
-    (λ fits same. let is : repeated n words ≡ script = cc in let low = leb-true (before + n * length words) 65536 fits in subst (λ s. before + length s ≤ 65536) is (omega (arith, low, length_repeated n words)))
+    cond_both (nat_le (before + n * length words) 65536) (Some (repeated n words)) None
+    (λ (o : Option (List ℕ)). o ≡ Some script → before + length script ≤ 65536)
+    (λ fits same. let is : repeated n words ≡ script = cc in let low = leb-true (before + n * length words) 65536 fits in
+    subst (λ s. before + length s ≤ 65536) is (omega (arith, low, length_repeated n words)))
     (λ large same. absurd (cc))
     h
 
-scripts_kept : (part : Part) (earlier : List BoardDevice) (d : BoardDevice) → script_words earlier ≤ 65536 → device_of part earlier ≡ Ok d → script_words (earlier ++ d ∷ []) ≤ 65536
+scripts_kept : (part : Part) (earlier : List BoardDevice) (d : BoardDevice) → script_words earlier ≤ 65536 → device_of part earlier ≡ Ok d
+    → script_words (earlier ++ d ∷ []) ≤ 65536
 unfolding device_of
 scripts_kept part earlier d before h =
     after (required (name_unless (names_device earlier)) part (codes "name")) _ d h (λ name name_is h1.
@@ -134,9 +145,12 @@ show_kept modules part s h =
     (record { «module» = placed.0; offset = in_offset.most; aligned = in_offset.divided; some_words = in_words.least; few_words = in_words.most })))))
 
 -- all entries of an array that was read of as many as it may have
-shows_kept : (modules : List BoardModule) (ds : Items) (shows : List BoardShow) → entries (λ part earlier. show_of modules part) (codes "show") [] ds ≡ Ok shows → All (IsShow (length modules)) shows
+shows_kept : (modules : List BoardModule) (ds : Items) (shows : List BoardShow) → entries (λ part earlier. show_of modules part) (codes "show") [] ds ≡ Ok shows
+    → All (IsShow (length modules)) shows
 shows_kept modules ds shows h =
-    entries_keep (All (IsShow (length modules))) (λ part earlier. show_of modules part) (codes "show") (λ part earlier s all read. All-push (IsShow (length modules)) earlier s all (show_kept modules part s read)) [] ds shows (All-nil (IsShow (length modules))) h
+    entries_keep (All (IsShow (length modules))) (λ part earlier. show_of modules part) (codes "show")
+    (λ part earlier s all read. All-push (IsShow (length modules)) earlier s all (show_kept modules part s read)) [] ds shows
+    (All-nil (IsShow (length modules))) h
 
 pub is_board : (file : Members) (b : Board) → board_of file ≡ Ok b → IsBoard b
 unfolding board_of

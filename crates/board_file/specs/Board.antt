@@ -1,10 +1,15 @@
 -- What a board file means: its fields in the order in which they are tested.
-use Rattle.std.specs.Prelude.{ℕ, zero, suc, ◌+◌, ◌*◌, Bool, false, nat_le, if◌then◌else◌, List, [], ◌∷◌, ◌++◌, length, position, sum_by, Option, Some, None, Result, Ok, option_and_then, codes}
+use Rattle.std.specs.Prelude.{ℕ, zero, suc, ◌+◌, ◌*◌, Bool, false, nat_le, if◌then◌else◌, List, []}
+use Rattle.std.specs.Prelude.{◌∷◌, ◌++◌, length, position, sum_by, Option, Some, None, Result, Ok}
+use Rattle.std.specs.Prelude.{option_and_then, codes}
 use Rattle.std.specs.List.{list_any}
 use Rattle.std.specs.Str.{bytes_eq}
 use Rattle.toml.specs.Data.{Data, Members, no_items, as_bool, as_str}
-use Rattle.tx_types.specs.Limits.{module_limit, device_limit, show_limit, cell_limit, step_limit, interrupt_limit}
-use Rattle.board_file.specs.Field.{◌>>=◌, Part, named, required, optional, forbidden, in_range, name_of, name_unless, text_within, array_within, words_of, entries, nothing_else}
+use Rattle.tx_types.specs.Limits.{module_limit, device_limit, show_limit, cell_limit, step_limit}
+use Rattle.tx_types.specs.Limits.{interrupt_limit}
+use Rattle.board_file.specs.Field.{◌>>=◌, Part, named, required, optional, forbidden, in_range}
+use Rattle.board_file.specs.Field.{name_of, name_unless, text_within, array_within, words_of}
+use Rattle.board_file.specs.Field.{entries, nothing_else}
 use Rattle.board_file.specs.Path.{key_path}
 use Rattle.board_file.specs.declared.board.Action.{Action}
 use Rattle.board_file.specs.declared.board.Action.TheVariants.{Resume, Tick}

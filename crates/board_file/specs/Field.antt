@@ -1,8 +1,11 @@
 -- Reading fields of a table in order: each is a value, or stops at the path of the first wrong one.
-use Rattle.std.specs.Prelude.{ℕ, suc, pos, ◌%◌, ◌==◌, ◌&&◌, ◌||◌, Bool, not, nat_le, if◌then◌else◌, List, [], ◌∷◌, ◌++◌, length, Option, Some, None, Result, Ok, Err, option_and_then}
+use Rattle.std.specs.Prelude.{ℕ, suc, pos, ◌%◌, ◌==◌, ◌&&◌, ◌||◌, Bool, not, nat_le, if◌then◌else◌}
+use Rattle.std.specs.Prelude.{List, [], ◌∷◌, ◌++◌, length, Option, Some, None, Result, Ok, Err}
+use Rattle.std.specs.Prelude.{option_and_then}
 use Rattle.std.specs.List.{list_all, list_any}
 use Rattle.std.specs.Str.{bytes_eq}
-use Rattle.toml.specs.Data.{Data, integer, table, Items, no_items, item, Members, no_members, member, get_member, as_str, as_array}
+use Rattle.toml.specs.Data.{Data, integer, table, Items, no_items, item, Members, no_members}
+use Rattle.toml.specs.Data.{member, get_member, as_str, as_array}
 use Rattle.tx_types.specs.Limits.{name_limit}
 use Rattle.board_file.specs.Path.{entry_path, key_path}
 

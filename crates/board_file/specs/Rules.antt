@@ -1,6 +1,7 @@
 -- What holds of every board that is read, for the layers above.
 use Rattle.std.specs.Prelude.{◌≡◌, ℕ, ◌%◌, ◌<◌, ◌≤◌, All, length}
-use Rattle.tx_types.specs.Limits.{module_limit, device_limit, show_limit, cell_limit, step_limit, interrupt_limit}
+use Rattle.tx_types.specs.Limits.{module_limit, device_limit, show_limit, cell_limit, step_limit}
+use Rattle.tx_types.specs.Limits.{interrupt_limit}
 use Rattle.board_file.specs.Board.{script_words}
 use Rattle.board_file.specs.declared.board.Board.{Board}
 use Rattle.board_file.specs.declared.board.BoardShow.{BoardShow}

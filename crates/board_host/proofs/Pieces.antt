@@ -1,5 +1,6 @@
 -- A piece is written prefix by prefix.
-use Rattle.std.proofs.Common.{◌≡◌, ℕ, ◌-◌, List, [], ◌++◌, length, take, drop, Option, sym, ap, ◌∙◌, subst, append_assoc, append-nil, take-append-drop, Result, Ok, Err, IsErr, arith, length-append}
+use Rattle.std.proofs.Common.{◌≡◌, ℕ, ◌-◌, List, [], ◌++◌, length, take, drop, Option, sym, ap, ◌∙◌, subst, append_assoc, append-nil, take-append-drop, Result}
+use Rattle.std.proofs.Common.{Ok, Err, IsErr, arith, length-append}
 use Rattle.std.proofs.lemmas.Bool.{false≢true}
 use Rattle.std.proofs.lemmas.List.{take_rest}
 use Rattle.std.proofs.Math.Seq.{take-append_seam}
@@ -16,12 +17,18 @@ pub record IsUnderWay (old new : Option (List ℕ)) (piece rest : List ℕ) : Ty
 
 split_more : (piece done rest : List ℕ) (n : ℕ) → piece ≡ done ++ rest → piece ≡ (done ++ take n rest) ++ take (length rest - n) (drop n rest)
 split_more piece done rest n e =
-    e ∙ ap (λ l. done ++ l) (sym (take-append-drop n rest)) ∙ sym (append_assoc done (take n rest) (drop n rest)) ∙ ap (λ l. (done ++ take n rest) ++ l) (sym (take_rest rest n))
+    e ∙ ap (λ l. done ++ l) (sym (take-append-drop n rest)) ∙ sym (append_assoc done (take n rest) (drop n rest))
+    ∙ ap (λ l. (done ++ take n rest) ++ l) (sym (take_rest rest n))
 
 -- one more prefix of the rest
-pub under_way_more : (old mid new : Option (List ℕ)) (piece rest : List ℕ) (n : ℕ) → IsUnderWay old mid piece rest → Appends mid new (take n rest) → IsUnderWay old new piece (take (length rest - n) (drop n rest))
+pub under_way_more : (old mid new : Option (List ℕ)) (piece rest : List ℕ) (n : ℕ) → IsUnderWay old mid piece rest → Appends mid new (take n rest)
+    → IsUnderWay old new piece (take (length rest - n) (drop n rest))
 under_way_more old mid new piece rest n h more =
-    record { done = h.done ++ take n rest; split = split_more piece h.done rest n h.split; appended = Appends-trans old mid new h.done (take n rest) h.appended more }
+    record {
+      done = h.done ++ take n rest;
+      split = split_more piece h.done rest n h.split;
+      appended = Appends-trans old mid new h.done (take n rest) h.appended more;
+    }
 
 -- the prefix that was appended
 under_way_prefix : (old new : Option (List ℕ)) (piece rest : List ℕ) → IsUnderWay old new piece rest → AppendsPrefix old new piece

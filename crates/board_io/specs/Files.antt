@@ -1,5 +1,7 @@
 -- What a read answers by the bytes that are held under each name, and files in memory.
-use Rattle.std.specs.Prelude.{◌≡◌, ℕ, ◌+◌, ◌==◌, Bool, true, false, if◌then◌else◌, List, [], ◌∷◌, map, Option, None, Some, Result, Ok, Err, take, IsSome, IsSomeAnd, String, string_bytes, ◌⊎◌}
+use Rattle.std.specs.Prelude.{◌≡◌, ℕ, ◌+◌, ◌==◌, Bool, true, false, if◌then◌else◌, List, [], ◌∷◌}
+use Rattle.std.specs.Prelude.{map, Option, None, Some, Result, Ok, Err, take, IsSome, IsSomeAnd}
+use Rattle.std.specs.Prelude.{String, string_bytes, ◌⊎◌}
 use Rattle.std.specs.Global.{Global, Vec}
 use Rattle.std.specs.List.{list_any}
 use Rattle.std.specs.Str.{bytes_eq}

@@ -1,7 +1,8 @@
 -- The number of each status: what the process exits with.
 use Rattle.std.specs.Prelude.{ℕ}
 use Rattle.board_io.specs.declared.status.Status.{Status}
-use Rattle.board_io.specs.declared.status.Status.TheVariants.{Done, Usage, ReadFault, Refused, WriteFault, NoMemory}
+use Rattle.board_io.specs.declared.status.Status.TheVariants.{Done, Usage, ReadFault, Refused}
+use Rattle.board_io.specs.declared.status.Status.TheVariants.{WriteFault, NoMemory}
 
 abbrev pub number_of : Status → ℕ
 number_of Done = 0

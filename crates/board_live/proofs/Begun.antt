@@ -1,5 +1,6 @@
 -- What was taken of devices that sent a prefix of their scripts is a prefix of their scripts.
-use Rattle.std.proofs.Common.{◌≡◌, ℕ, zero, suc, ◌<◌, ◌≤◌, List, [], ◌∷◌, ◌++◌, length, map, take, Some, slice_get, slice_index_or, refl, sym, ap, ◌∙◌, ⊎_elim, arith, All}
+use Rattle.std.proofs.Common.{◌≡◌, ℕ, zero, suc, ◌<◌, ◌≤◌, List, [], ◌∷◌, ◌++◌, length, map, take, Some, slice_get, slice_index_or, refl, sym, ap, ◌∙◌, ⊎_elim}
+use Rattle.std.proofs.Common.{arith, All}
 use Rattle.std.proofs.lemmas.Bool.{cases_lt}
 use Rattle.std.proofs.lemmas.Bool.Decides.{nat_tests}
 use Rattle.std.proofs.lemmas.List.Elements.{All-head, All-tail}

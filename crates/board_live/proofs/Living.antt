@@ -3,7 +3,8 @@ use Rattle.std.proofs.Common.{◌≡◌, ℕ, ◌≤◌, List, Option, Some, Non
 use Rattle.std.specs.Option.{option_map}
 use Rattle.board_core.specs.Run.{Origin}
 use Rattle.board_io.specs.declared.status.Status.{Status}
-use Rattle.board_io.specs.declared.status.Status.TheVariants.{Done, Usage, ReadFault as StatusReadFault, Refused as StatusRefused, WriteFault, NoMemory as StatusNoMemory}
+use Rattle.board_io.specs.declared.status.Status.TheVariants.{Done, Usage, ReadFault as StatusReadFault, Refused as StatusRefused, WriteFault}
+use Rattle.board_io.specs.declared.status.Status.TheVariants.{NoMemory as StatusNoMemory}
 use Rattle.board_run.specs.Answer.{Answers, Completes}
 use Rattle.board_run.specs.Booting.{booted_at}
 use Rattle.board_run.specs.Call.{Call, Ended, WritesNothing, files_rose, sink_rose}
@@ -46,7 +47,8 @@ refused line c result ends = elim ends [
 
 -- a call that stopped before its session
 stop_answers : (board : List ℕ) (known : Option (List ℕ → Option (List ℕ))) (c : Call) (stop : Stop) (result : Status)
-    → Stops (option_map (booted_at board) known) (files_rose c) stop → StopsIn c stop result → IfSome known (λ at. LiveAnswers (begun_or_due (booted_at board at)) c result)
+    → Stops (option_map (booted_at board) known) (files_rose c) stop → StopsIn c stop result
+    → IfSome known (λ at. LiveAnswers (begun_or_due (booted_at board at)) c result)
 stop_answers board None c stop result why ends = tt
 stop_answers board (Some at) c ReadFault result why ends = elim why [
   | inl is ↦ subst (λ d. LiveAnswers (begun_or_due d) c result) (sym is) (subst (λ r. Answers (due_of (Err ReadFault)) c r) (sym ends.0) (inl refl, ends.1))
@@ -71,7 +73,8 @@ stop_untold board None c (Refused refusal) result why ends = λ is.
 stop_untold board None c NoMemory result why ends = λ is. absurd (cc)
 
 pub stop_ended : (board : List ℕ) (c : Call) (stop : Stop) (result : Status)
-    → Kept c → Stops (option_map (booted_at board) c.held_old) (files_rose c) stop → StopsIn c stop result → Ended LiveAnswers (λ at. begun_or_due (booted_at board at)) c result
+    → Kept c → Stops (option_map (booted_at board) c.held_old) (files_rose c) stop → StopsIn c stop result
+    → Ended LiveAnswers (λ at. begun_or_due (booted_at board at)) c result
 stop_ended board c stop result kept why ends = record {
   held = kept.held;
   read = kept.read;
@@ -82,7 +85,8 @@ stop_ended board c stop result kept why ends = record {
 
 -- the session of a board that was booted
 run_answers : (board : List ℕ) (known : Option (List ℕ → Option (List ℕ))) (c : Call) (o : Origin) (result : Status)
-    → IfSome (option_map (booted_at board) known) (λ d. d ≡ Ok o) → RunsIn o c result → IfSome known (λ at. LiveAnswers (begun_or_due (booted_at board at)) c result)
+    → IfSome (option_map (booted_at board) known) (λ d. d ≡ Ok o) → RunsIn o c result
+    → IfSome known (λ at. LiveAnswers (begun_or_due (booted_at board at)) c result)
 run_answers board None c o result is ran = tt
 run_answers board (Some at) c o result is ran = subst (λ d. LiveAnswers (begun_or_due d) c result) (sym is) (inl ran)
 
@@ -95,7 +99,8 @@ untold_any None P p = p
 untold_any (Some at) P p = tt
 
 pub run_ended : (board : List ℕ) (c : Call) (o : Origin) (result : Status)
-    → Kept c → IfSome (option_map (booted_at board) c.held_old) (λ d. d ≡ Ok o) → RunsIn o c result → Ended LiveAnswers (λ at. begun_or_due (booted_at board at)) c result
+    → Kept c → IfSome (option_map (booted_at board) c.held_old) (λ d. d ≡ Ok o) → RunsIn o c result
+    → Ended LiveAnswers (λ at. begun_or_due (booted_at board at)) c result
 run_ended board c o result kept is ran = record {
   held = kept.held;
   read = kept.read;
@@ -130,6 +135,7 @@ answer_completes (Ok o) c result a = elim a [
 ]
 
 -- a call that may answer so is complete
-pub answers_complete : {A : Type 0} (due : A → Result Origin Due) (known : Option A) (c : Call) (result : Status) → IfSome known (λ a. LiveAnswers (due a) c result) → IfSome known (λ a. LiveCompletes (due a) c result)
+pub answers_complete : {A : Type 0} (due : A → Result Origin Due) (known : Option A) (c : Call) (result : Status)
+    → IfSome known (λ a. LiveAnswers (due a) c result) → IfSome known (λ a. LiveCompletes (due a) c result)
 answers_complete due None c result h = tt
 answers_complete due (Some a) c result h = answer_completes (due a) c result h

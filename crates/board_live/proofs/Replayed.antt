@@ -1,5 +1,6 @@
 -- The log of a run isn't too large to be read, and its replay is the text of the run.
-use Rattle.std.proofs.Common.{◌≡◌, ℕ, ◌+◌, ◌*◌, ◌≤◌, true, false, cond, nat_lt, List, [], ◌∷◌, length, All, Option, None, Some, Result, Ok, Err, ap, subst, refl, ◌∙◌, arith, length-append, codes, ◌++◌}
+use Rattle.std.proofs.Common.{◌≡◌, ℕ, ◌+◌, ◌*◌, ◌≤◌, true, false, cond, nat_lt, List, [], ◌∷◌, length, All, Option, None, Some, Result, Ok, Err, ap, subst}
+use Rattle.std.proofs.Common.{refl, ◌∙◌, arith, length-append, codes, ◌++◌}
 use Rattle.std.proofs.lemmas.Bool.{cond-false, le-ltb}
 use Rattle.std.proofs.lemmas.Fmt.{length-decimal-le}
 use Rattle.std.proofs.lemmas.List.Elements.{All-head, All-tail}

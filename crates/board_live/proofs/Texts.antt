@@ -1,5 +1,6 @@
 -- The text of a run, piece after piece.
-use Rattle.std.proofs.Common.{◌≡◌, ℕ, zero, suc, ◌+◌, ◌≤◌, min, List, [], ◌∷◌, ◌++◌, length, take, Option, Result, Ok, Err, sym, ap, subst, ◌∙◌, append_assoc, arith}
+use Rattle.std.proofs.Common.{◌≡◌, ℕ, zero, suc, ◌+◌, ◌≤◌, min, List, [], ◌∷◌, ◌++◌, length, take, Option, Result, Ok, Err, sym, ap, subst, ◌∙◌, append_assoc}
+use Rattle.std.proofs.Common.{arith}
 use Rattle.std.specs.Bool.{⊤}
 use Rattle.std.proofs.lemmas.Grind.{common_steps, flat_map-append}
 use Rattle.std.proofs.lemmas.List.{append-nil, append_cancel_left, length-append, nil_from_length}
@@ -54,7 +55,8 @@ pub report_failed : (o : Origin) (h : List Entry) (report : Report) (before mid 
     → WroteEnd o h before now old new (Err WriteFault)
 report_failed o h report before mid now old part new le line is failed = (
   omega (arith, le, failed.0),
-  prefix_after old part new (text_of (unclosed h)) (report_text (report_of (reached o h))) line (subst (λ r. AppendsPrefix part new (report_text r)) is failed.1),
+  prefix_after old part new (text_of (unclosed h)) (report_text (report_of (reached o h))) line
+      (subst (λ r. AppendsPrefix part new (report_text r)) is failed.1),
 )
 
 -- what ended a run, by what was written last

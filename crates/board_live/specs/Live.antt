@@ -1,11 +1,13 @@
 -- `run BOARD`: its words, what is due before its session begins, and what it may answer.
-use Rattle.std.specs.Prelude.{◌≡◌, ◌⊎◌, ℕ, if◌then◌else◌, List, [], ◌∷◌, Option, None, Some, Result, Ok, Err, codes}
+use Rattle.std.specs.Prelude.{◌≡◌, ◌⊎◌, ℕ, if◌then◌else◌, List, [], ◌∷◌, Option, None, Some, Result}
+use Rattle.std.specs.Prelude.{Ok, Err, codes}
 use Rattle.std.specs.Io.KnownBytes.{Appends, Keeps}
 use Rattle.std.specs.Str.{bytes_eq}
 use Rattle.board_core.specs.Run.{Origin}
 use Rattle.board_io.specs.Sink.{AppendsPrefix}
 use Rattle.board_io.specs.declared.status.Status.{Status}
-use Rattle.board_io.specs.declared.status.Status.TheVariants.{Done, Usage, ReadFault, Refused, WriteFault, NoMemory}
+use Rattle.board_io.specs.declared.status.Status.TheVariants.{Done, Usage, ReadFault, Refused}
+use Rattle.board_io.specs.declared.status.Status.TheVariants.{WriteFault, NoMemory}
 use Rattle.board_run.specs.Answer.{Answers, Completes}
 use Rattle.board_run.specs.Booting.{booted_at}
 use Rattle.board_run.specs.Call.{Call, WritesNothing, files_rose, sink_rose}

@@ -1,5 +1,6 @@
 -- Where the lines of rows stand.
-use Rattle.std.proofs.Common.{◌≡◌, ℕ, ◌+◌, ◌*◌, ◌<◌, ◌≤◌, zero, suc, List, [], ◌∷◌, ◌++◌, Option, Some, length, map, get_or, subst, refl, length-append, ◌-◌, arith}
+use Rattle.std.proofs.Common.{◌≡◌, ℕ, ◌+◌, ◌*◌, ◌<◌, ◌≤◌, zero, suc, List, [], ◌∷◌, ◌++◌, Option, Some, length, map, get_or, subst, refl, length-append, ◌-◌}
+use Rattle.std.proofs.Common.{arith}
 use Rattle.std.proofs.lemmas.List.{length-map}
 use Rattle.std.proofs.lemmas.Option.{slice_get-get_or, slice_get-map}
 use Rattle.std.proofs.lemmas.List.Elements.{All-get_or}
@@ -15,14 +16,16 @@ mapped_at f xs i d h = rw (slice_get-map, slice_get-get_or xs i d h) refl
 pub ruleset places = (mapped_at, All-get_or)
 
 -- a thread's line, then its registers'
-pub thread_at : (ts : List ThreadRow) (k : ℕ) (d : ThreadRow) → k < length ts → slice_get (flat_map thread_lines ts) (2 * k) ≡ Some (thread_line (get_or ts k d))
+pub thread_at : (ts : List ThreadRow) (k : ℕ) (d : ThreadRow) → k < length ts
+    → slice_get (flat_map thread_lines ts) (2 * k) ≡ Some (thread_line (get_or ts k d))
 thread_at [] k d h = absurd (omega arith)
 thread_at (t ∷ ts) zero d h = refl
 thread_at (t ∷ ts) (suc k) d h =
     let e : suc (suc (2 * k)) ≡ 2 * suc k = omega arith in
     subst (λ i. slice_get (flat_map thread_lines (t ∷ ts)) i ≡ Some (thread_line (get_or ts k d))) e (thread_at ts k d (omega arith))
 
-pub regs_at : (ts : List ThreadRow) (k : ℕ) (d : ThreadRow) → k < length ts → slice_get (flat_map thread_lines ts) (2 * k + 1) ≡ Some (regs_line (get_or ts k d).regs)
+pub regs_at : (ts : List ThreadRow) (k : ℕ) (d : ThreadRow) → k < length ts
+    → slice_get (flat_map thread_lines ts) (2 * k + 1) ≡ Some (regs_line (get_or ts k d).regs)
 regs_at [] k d h = absurd (omega arith)
 regs_at (t ∷ ts) zero d h = refl
 regs_at (t ∷ ts) (suc k) d h =
@@ -56,6 +59,8 @@ row_length f xs n e = omega (arith, length-map xs f)
 
 pub ruleset sections = (in_first, in_second, row_length)
 
-pub report_length : (r : Report) → length (report_lines r) ≡ 6 + (length (flat_map module_lines r.modules) + (length (flat_map thread_lines r.threads) + (length r.objects + (length r.devices + (length r.shows + 1)))))
+pub report_length : (r : Report)
+    → length (report_lines r) ≡ 6
+    + (length (flat_map module_lines r.modules) + (length (flat_map thread_lines r.threads) + (length r.objects + (length r.devices + (length r.shows + 1)))))
 unfolding report_lines
 report_length r = simp (length-append, length-map) (omega arith)

@@ -1,5 +1,6 @@
 -- Parts of a report's lines.
-use Rattle.std.specs.Prelude.{ℕ, nat_le, ◌&&◌, if◌then◌else◌, List, [], ◌∷◌, ◌++◌, Option, None, Some, map, codes, decimal}
+use Rattle.std.specs.Prelude.{ℕ, nat_le, ◌&&◌, if◌then◌else◌, List, [], ◌∷◌, ◌++◌, Option, None}
+use Rattle.std.specs.Prelude.{Some, map, codes, decimal}
 use Rattle.std.specs.List.{flat_map}
 use Rattle.tx_types.specs.Line.{hex}
 

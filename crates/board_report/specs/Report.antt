@@ -10,7 +10,8 @@ use Rattle.board_values.specs.declared.report.ThreadRow.{ThreadRow}
 use Rattle.board_values.specs.declared.report.ObjectRow.{ObjectRow}
 use Rattle.board_values.specs.declared.report.DeviceRow.{DeviceRow}
 use Rattle.board_values.specs.declared.report.ShowRow.{ShowRow}
-use Rattle.board_report.specs.Parts.{newline, name_text, numbers_text, words_text, cells_text, running_text, pair_text}
+use Rattle.board_report.specs.Parts.{newline, name_text, numbers_text, words_text, cells_text}
+use Rattle.board_report.specs.Parts.{running_text, pair_text}
 
 unfoldable pub first_line : List ℕ
 first_line = codes "report" ++ newline

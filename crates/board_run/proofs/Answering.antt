@@ -10,7 +10,8 @@ use Rattle.board_io.specs.Sink.{Wrote}
 use Rattle.board_run.specs.Step.{◌>>=◌}
 use Rattle.board_run.specs.declared.refusal.Stop.{Stop}
 use Rattle.board_io.specs.declared.status.Status.{Status}
-use Rattle.board_io.specs.declared.status.Status.TheVariants.{Done, Usage, ReadFault as StatusReadFault, Refused as StatusRefused, WriteFault, NoMemory as StatusNoMemory}
+use Rattle.board_io.specs.declared.status.Status.TheVariants.{Done, Usage, ReadFault as StatusReadFault, Refused as StatusRefused, WriteFault}
+use Rattle.board_io.specs.declared.status.Status.TheVariants.{NoMemory as StatusNoMemory}
 
 -- a status that comes with its whole text
 pub data IsWhole : Status → Type 0 where
@@ -31,7 +32,8 @@ abbrev EndsIn : Call → List ℕ → (status result : Status) → Type 0
 EndsIn c text status result = Ends (sink_rose c) c.written_old c.written_new text status result
 
 -- the status due with its text, or a fault of writing
-ends_answers : (due : Due) (c : Call) (text : List ℕ) (status result : Status) → IsWhole status → due ≡ record { status = status; text = text } → EndsIn c text status result → Answers due c result
+ends_answers : (due : Due) (c : Call) (text : List ℕ) (status result : Status) → IsWhole status → due ≡ record { status = status; text = text }
+    → EndsIn c text status result → Answers due c result
 ends_answers due c text status result w is ends =
     let whole_due : Due = record { status = status; text = text } in
     subst (λ d. Answers d c result) (sym is) (elim ends [
@@ -41,18 +43,22 @@ ends_answers due c text status result w is ends =
 
 -- a call whose text was written
 written_answers : {A X : Type 0} (first : A → Result X Stop) (text : X → List ℕ) (known : Option A) (c : Call) (x : X) (result : Status)
-    → IfSome (option_map first known) (λ d. d ≡ Ok x) → EndsIn c (text x) Done result → IfSome known (λ a. Answers (due_of (first a >>= λ y. Ok (text y))) c result)
+    → IfSome (option_map first known) (λ d. d ≡ Ok x) → EndsIn c (text x) Done result
+    → IfSome known (λ a. Answers (due_of (first a >>= λ y. Ok (text y))) c result)
 written_answers first text None c x result is ends = tt
 written_answers first text (Some a) c x result is ends =
     ends_answers _ c _ Done result done (ap (λ r. due_of (r >>= λ y. Ok (text y))) is) ends
 
 -- it is no fault of reading
-done_untold : {A : Type 0} (known : Option A) (c : Call) (text : List ℕ) (result : Status) → EndsIn c text Done result → IfNone known (result ≡ StatusReadFault → files_rose c)
+done_untold : {A : Type 0} (known : Option A) (c : Call) (text : List ℕ) (result : Status) → EndsIn c text Done result
+    → IfNone known (result ≡ StatusReadFault → files_rose c)
 done_untold (Some a) c text result ends = tt
 done_untold None c text result ends = λ is. elim ends [ inl whole ↦ absurd (cc) | inr fault ↦ absurd (cc) ]
 
 -- how a call ends whose text was written, or not whole
-done_ends : {T E : Type 0} (before now : ℕ) (old new : Option (List ℕ)) (text : List ℕ) (written : Result T E) (result : Status) → Wrote before now old new text written → MatchResult written (λ _. result ≡ Done) (λ _. result ≡ WriteFault) → Ends (Rose before now) old new text Done result
+done_ends : {T E : Type 0} (before now : ℕ) (old new : Option (List ℕ)) (text : List ℕ) (written : Result T E) (result : Status)
+    → Wrote before now old new text written → MatchResult written (λ _. result ≡ Done) (λ _. result ≡ WriteFault)
+    → Ends (Rose before now) old new text Done result
 done_ends before now old new text (Ok v) result wrote is = inl (is, wrote)
 done_ends before now old new text (Err e) result wrote is = inr (is, wrote.0, wrote.1)
 
@@ -63,7 +69,8 @@ pub record Kept (c : Call) : Type 0 where
   pub written : c.wrote_old ≤ c.wrote_new
 
 -- a command whose text was written, or not whole
-pub written_ended : {T E X : Type 0} (first : (List ℕ → Option (List ℕ)) → Result X Stop) (text : X → List ℕ) (c : Call) (x : X) (written : Result T E) (result : Status)
+pub written_ended : {T E X : Type 0} (first : (List ℕ → Option (List ℕ)) → Result X Stop) (text : X → List ℕ) (c : Call) (x : X)
+    (written : Result T E) (result : Status)
     → Kept c → IfSome (option_map first c.held_old) (λ d. d ≡ Ok x) → Wrote c.wrote_old c.wrote_new c.written_old c.written_new (text x) written
     → MatchResult written (λ _. result ≡ Done) (λ _. result ≡ WriteFault) → Ended Answers (λ at. due_of (first at >>= λ x. Ok (text x))) c result
 written_ended first text c x written result kept is wrote said =
@@ -86,6 +93,7 @@ answer_completes due c WriteFault a = inr (inl a.0)
 answer_completes due c StatusNoMemory a = inr (inr (inr refl))
 
 -- a call that may answer so is complete
-pub answers_complete : {A : Type 0} (due : A → Due) (known : Option A) (c : Call) (result : Status) → IfSome known (λ a. Answers (due a) c result) → IfSome known (λ a. Completes (due a) c result)
+pub answers_complete : {A : Type 0} (due : A → Due) (known : Option A) (c : Call) (result : Status) → IfSome known (λ a. Answers (due a) c result)
+    → IfSome known (λ a. Completes (due a) c result)
 answers_complete due None c result h = tt
 answers_complete due (Some a) c result h = answer_completes (due a) c result h

@@ -3,7 +3,8 @@ use Rattle.std.proofs.Common.{◌≡◌, ℕ, suc, ◌<◌, List, ◌++◌, leng
 use Rattle.std.specs.List.{flat_map}
 
 -- the texts from a place on begin with that of the element there
-pub text_first : {X : Type 0} (f : X → List ℕ) (i j : ℕ) (xs : List X) (x : X) (text : List ℕ) → suc i ≡ j → i < length xs → x ≡ slice_index_or xs i x → text ≡ f x → flat_map f (drop i xs) ≡ text ++ flat_map f (drop j xs)
+pub text_first : {X : Type 0} (f : X → List ℕ) (i j : ℕ) (xs : List X) (x : X) (text : List ℕ) → suc i ≡ j → i < length xs → x ≡ slice_index_or xs i x
+    → text ≡ f x → flat_map f (drop i xs) ≡ text ++ flat_map f (drop j xs)
 text_first f i j xs x text next inside here is =
     ap (λ ys. flat_map f ys) (drop-cons xs i x inside)
     ∙ ap (λ y. f y ++ flat_map f (drop (suc i) xs)) (sym here)

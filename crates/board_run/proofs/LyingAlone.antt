@@ -14,21 +14,28 @@ use Rattle.board_run.specs.Placing.{places_in}
 use Rattle.board_run.specs.Refused.{refused_room}
 
 -- the one free range gives its first bytes
-code_taken : (size : ℕ) → size ≤ 1048576 → taken size (free_ram 4194304) ≡ Some (record { base = ram_base; free = span (ram_base + size) (ram_base + 4194304) ∷ [] })
+code_taken : (size : ℕ) → size ≤ 1048576
+    → taken size (free_ram 4194304) ≡ Some (record { base = ram_base; free = span (ram_base + size) (ram_base + 4194304) ∷ [] })
 code_taken size small =
     let r : Range = record { base = ram_base; size = 4194304 } in
-    cond-true (holds size r) (Some (record { base = place_in r; free = left size r ++ [] })) (in_front r None) (le-leb (ram_base + size) (ram_base + 4194304) (omega arith))
-    ∙ ap (λ (rest : List Range). Some (record { base = ram_base; free = rest ++ [] })) (cond-true (nat_lt (ram_base + size) (ram_base + 4194304)) (span (ram_base + size) (ram_base + 4194304) ∷ []) [] (lt-ltb (ram_base + size) (ram_base + 4194304) (omega arith)))
+    cond-true (holds size r) (Some (record { base = place_in r; free = left size r ++ [] })) (in_front r None)
+    (le-leb (ram_base + size) (ram_base + 4194304) (omega arith))
+    ∙ ap (λ (rest : List Range). Some (record { base = ram_base; free = rest ++ [] }))
+    (cond-true (nat_lt (ram_base + size) (ram_base + 4194304)) (span (ram_base + size) (ram_base + 4194304) ∷ []) []
+    (lt-ltb (ram_base + size) (ram_base + 4194304) (omega arith)))
 
 -- what stays free gives the data
-data_taken : (size from to : ℕ) → from ≤ to → rounded_up 32 from + size ≤ to → taken size (span from to ∷ []) ≡ Some (record { base = rounded_up 32 from; free = left size (span from to) ++ [] })
+data_taken : (size from to : ℕ) → from ≤ to → rounded_up 32 from + size ≤ to
+    → taken size (span from to ∷ []) ≡ Some (record { base = rounded_up 32 from; free = left size (span from to) ++ [] })
 data_taken size from to order fits =
     let r : Range = span from to in
-    cond-true (holds size r) (Some (record { base = place_in r; free = left size r ++ [] })) (in_front r None) (le-leb (place_in r + size) (r.base + r.size) (omega arith))
+    cond-true (holds size r) (Some (record { base = place_in r; free = left size r ++ [] })) (in_front r None)
+    (le-leb (place_in r + size) (r.base + r.size) (omega arith))
 
 callback_small : (p : Preamble) → HasSizes p → callback_bytes p ≤ 65536
 callback_small p sizes =
-    cond_both (has_callback p) (rounded_up 16 p.callback_stack) 0 (λ n. n ≤ 65536) (λ has. let small = sizes.callback_stack has in omega arith) (λ none. omega arith)
+    cond_both (has_callback p) (rounded_up 16 p.callback_stack) 0 (λ n. n ≤ 65536) (λ has. let small = sizes.callback_stack has in omega arith)
+    (λ none. omega arith)
 
 pub places_alone : (p : Preamble) → HasSizes p → p.code_size ≤ 1048576 → places_in 4194304 (want_of p ∷ []) ≡ Ok (alone_at p ∷ [])
 places_alone p sizes small =

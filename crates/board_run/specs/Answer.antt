@@ -5,7 +5,8 @@ use Rattle.board_run.specs.Command.{Row}
 use Rattle.board_run.specs.Due.{Due, usage_line}
 use Rattle.board_run.specs.Ending.{Ends}
 use Rattle.board_io.specs.declared.status.Status.{Status}
-use Rattle.board_io.specs.declared.status.Status.TheVariants.{Done, Usage, ReadFault, Refused, WriteFault, NoMemory}
+use Rattle.board_io.specs.declared.status.Status.TheVariants.{Done, Usage, ReadFault, Refused}
+use Rattle.board_io.specs.declared.status.Status.TheVariants.{WriteFault, NoMemory}
 
 -- The status due, with its text written whole. Or a fault of reading, with nothing written; a fault
 -- of writing, with a prefix of the text written; or out of memory, with nothing written.

@@ -1,5 +1,6 @@
 -- What `check` finds of a board, and its text.
-use Rattle.std.specs.Prelude.{◌≡◌, ℕ, ◌+◌, ◌≤◌, List, [], ◌∷◌, ◌++◌, length, Option, Result, Ok, codes, decimal}
+use Rattle.std.specs.Prelude.{◌≡◌, ℕ, ◌+◌, ◌≤◌, List, [], ◌∷◌, ◌++◌, length, Option, Result, Ok}
+use Rattle.std.specs.Prelude.{codes, decimal}
 use Rattle.tx_types.specs.Limits.{module_limit}
 use Rattle.board_file.specs.declared.board.BoardModule.{BoardModule}
 use Rattle.board_report.specs.Parts.{name_text, newline}

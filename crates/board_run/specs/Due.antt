@@ -16,7 +16,10 @@ use Rattle.board_run.specs.declared.hart.Ran.{Ran}
 use Rattle.board_run.specs.declared.refusal.Stop.{Stop}
 use Rattle.board_run.specs.declared.refusal.Stop.TheVariants.{ReadFault, Refused, NoMemory}
 use Rattle.board_io.specs.declared.status.Status.{Status}
-use Rattle.board_io.specs.declared.status.Status.TheVariants.{Done, Usage, ReadFault as StatusReadFault, Refused as StatusRefused, NoMemory as StatusNoMemory}
+use Rattle.board_io.specs.declared.status.Status.TheVariants.{Done, Usage}
+use Rattle.board_io.specs.declared.status.Status.TheVariants.{ReadFault as StatusReadFault}
+use Rattle.board_io.specs.declared.status.Status.TheVariants.{Refused as StatusRefused}
+use Rattle.board_io.specs.declared.status.Status.TheVariants.{NoMemory as StatusNoMemory}
 
 -- the run of an image that lies alone, for at most the given number of instructions
 unfoldable pub image_ran : ℕ → List ℕ → Result Ran Stop

@@ -6,7 +6,9 @@ use Rattle.board_io.specs.Sink.{AppendsPrefix}
 use Rattle.board_run.specs.declared.refusal.Stop.{Stop}
 use Rattle.board_run.specs.declared.refusal.Stop.TheVariants.{ReadFault, Refused, NoMemory}
 use Rattle.board_io.specs.declared.status.Status.{Status}
-use Rattle.board_io.specs.declared.status.Status.TheVariants.{ReadFault as StatusReadFault, Refused as StatusRefused, WriteFault, NoMemory as StatusNoMemory}
+use Rattle.board_io.specs.declared.status.Status.TheVariants.{ReadFault as StatusReadFault}
+use Rattle.board_io.specs.declared.status.Status.TheVariants.{Refused as StatusRefused, WriteFault}
+use Rattle.board_io.specs.declared.status.Status.TheVariants.{NoMemory as StatusNoMemory}
 
 -- with a status, the text written whole; or with a fault of writing, a prefix of it written
 abbrev pub Ends : (sink_rose : Type 0) → (old new : Option (List ℕ)) → List ℕ → Status → Status

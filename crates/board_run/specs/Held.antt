@@ -1,5 +1,6 @@
 -- Files read whole, by the bytes that are held under each name.
-use Rattle.std.specs.Prelude.{ℕ, nat_lt, if◌then◌else◌, List, length, Option, Some, None, Result, Ok, Err}
+use Rattle.std.specs.Prelude.{ℕ, nat_lt, if◌then◌else◌, List, length, Option, Some, None, Result}
+use Rattle.std.specs.Prelude.{Ok, Err}
 use Rattle.board_run.specs.Step.{◌>>=◌}
 use Rattle.board_run.specs.declared.refusal.Refusal.{Refusal}
 use Rattle.board_run.specs.declared.refusal.Refusal.TheVariants.{ImageTooLarge}

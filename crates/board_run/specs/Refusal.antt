@@ -7,7 +7,9 @@ use Rattle.module_preamble.specs.declared.refusal.PreErr.{PreErr}
 use Rattle.board_io.specs.declared.files.ReadErr.{ReadErr}
 use Rattle.board_io.specs.declared.files.ReadErr.TheVariants.{Failed, Missing, NoMemory}
 use Rattle.board_run.specs.declared.refusal.Refusal.{Refusal}
-use Rattle.board_run.specs.declared.refusal.Refusal.TheVariants.{BoardTooLarge, NotToml, Field, ImageTooLarge, LogTooLarge, LogLine, Image, Room}
+use Rattle.board_run.specs.declared.refusal.Refusal.TheVariants.{BoardTooLarge, NotToml, Field}
+use Rattle.board_run.specs.declared.refusal.Refusal.TheVariants.{ImageTooLarge, LogTooLarge}
+use Rattle.board_run.specs.declared.refusal.Refusal.TheVariants.{LogLine, Image, Room}
 use Rattle.board_run.specs.declared.refusal.Stop.{Stop}
 use Rattle.board_run.specs.declared.refusal.Stop.TheVariants.{ReadFault, NoMemory as StopNoMemory}
 

@@ -10,7 +10,8 @@ use Rattle.event_log.specs.declared.entry.Entry.{Entry}
 use Rattle.module_loader.specs.declared.placement.Placed.{Placed}
 use Rattle.module_preamble.specs.declared.refusal.PreErr.{PreErr}
 use Rattle.module_preamble.specs.declared.words.Preamble.{Preamble}
-use Rattle.board_run.specs.declared.refusal.Refusal.TheVariants.{NotToml, Field, LogLine, Image, Room}
+use Rattle.board_run.specs.declared.refusal.Refusal.TheVariants.{NotToml, Field, LogLine, Image}
+use Rattle.board_run.specs.declared.refusal.Refusal.TheVariants.{Room}
 use Rattle.board_run.specs.declared.refusal.Stop.{Stop}
 use Rattle.board_run.specs.declared.refusal.Stop.TheVariants.{Refused, NoMemory}
 

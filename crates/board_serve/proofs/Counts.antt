@@ -1,5 +1,6 @@
 -- The count of one entry more.
-use Rattle.std.proofs.Common.{◌≡◌, ◌≢◌, ℕ, zero, suc, inl, inr, ◌+◌, ◌-◌, ◌^◌, ◌<◌, ◌≤◌, min, List, [], ◌∷◌, ◌++◌, length, slice_index, slice_set, sym, refl, ap, subst, ◌⊎◌, ⊎_elim, arith}
+use Rattle.std.proofs.Common.{◌≡◌, ◌≢◌, ℕ, zero, suc, inl, inr, ◌+◌, ◌-◌, ◌^◌, ◌<◌, ◌≤◌, min, List, [], ◌∷◌, ◌++◌, length, slice_index, slice_set, sym, refl}
+use Rattle.std.proofs.Common.{ap, subst, ◌⊎◌, ⊎_elim, arith}
 use Rattle.std.proofs.lemmas.Bool.Decides.{nat_tests}
 use Rattle.std.proofs.lemmas.Grind.{flat_map-append}
 use Rattle.std.proofs.lemmas.List.{append-nil, length-append, length-set, get_or-set_same, get_or-set_other}
@@ -15,7 +16,13 @@ same_or_else (suc d) zero = inr (λ e. absurd (omega (arith, e)))
 same_or_else (suc d) (suc n) = ⊎_elim (λ (e : d ≡ n). inl (ap suc e)) (λ (f : d ≢ n). inr (λ e. f (omega (arith, e)))) (same_or_else d n)
 
 of_one : (d : ℕ) (got : List Entry) (e : Entry) → length (words_of d (got ++ e ∷ [])) ≡ length (words_of d got) + length (words_in d e)
-of_one d got e = omega (arith, ap length (flat_map-append (words_in d) got (e ∷ [])), length-append (words_of d got) (words_in d e ++ []), ap length (append-nil (words_in d e)))
+of_one d got e =
+    omega (
+      arith,
+      ap length (flat_map-append (words_in d) got (e ∷ [])),
+      length-append (words_of d got) (words_in d e ++ []),
+      ap length (append-nil (words_in d e)),
+    )
 
 here : (d w : ℕ) → length (words_in d (Irq d w)) ≡ 1
 here d w = grind (arith, nat_tests)

@@ -25,13 +25,15 @@ pub next_of : (inbox : TableId) (n : ℕ) (passes before rest : List DevSeen) (p
 next_of inbox n passes before rest p all e = all.1 (length before) p (ap (λ l. slice_get l (length before)) (sym e) ∙ stands before p rest)
 
 -- the script of the device that stands at a place
-pub script_here : (devices : List BoardDevice) (k d : ℕ) (v : BoardDevice) → k ≡ d → d < length devices → (slice_index_or devices k v).script ≡ script_of devices d
+pub script_here : (devices : List BoardDevice) (k d : ℕ) (v : BoardDevice) → k ≡ d → d < length devices
+    → (slice_index_or devices k v).script ≡ script_of devices d
 script_here devices k d v at lt =
-    ap (λ j. (slice_index_or devices j v).script) at ∙ ap (λ (x : BoardDevice). x.script) (same_there devices d v (record { name = []; action = Resume; target = []; script = [] }) lt)
+    ap (λ j. (slice_index_or devices j v).script) at ∙ ap
+    (λ (x : BoardDevice). x.script) (same_there devices d v (record { name = []; action = Resume; target = []; script = [] }) lt)
 
 -- a device at work after some others
-pub device_next : (inbox : TableId) (devices : List BoardDevice) (working before rest : List Device) (v : Device) → AreRunning inbox devices working → before ++ v ∷ rest ≡ working
-    → IsRunning inbox (length before) (script_of devices (length before)) v
+pub device_next : (inbox : TableId) (devices : List BoardDevice) (working before rest : List Device) (v : Device) → AreRunning inbox devices working
+    → before ++ v ∷ rest ≡ working → IsRunning inbox (length before) (script_of devices (length before)) v
 device_next inbox devices working before rest v run e =
     let lt = inside working before rest v e in
     let is = ap (λ l. slice_index_or l (length before) v) (sym e) ∙ index_stands before v v rest in

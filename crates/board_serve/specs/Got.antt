@@ -1,5 +1,6 @@
 -- What was got from the lane: its lines, and how many interrupts of each device it has.
-use Rattle.std.specs.Prelude.{◌≡◌, ℕ, ◌-◌, ◌^◌, ◌<◌, ◌≤◌, min, List, length, Option, Result, slice_index}
+use Rattle.std.specs.Prelude.{◌≡◌, ℕ, ◌-◌, ◌^◌, ◌<◌, ◌≤◌, min, List, length, Option, Result}
+use Rattle.std.specs.Prelude.{slice_index}
 use Rattle.std.specs.Io.KnownBytes.{Appends}
 use Rattle.board_file.specs.declared.board.BoardDevice.{BoardDevice}
 use Rattle.board_io.specs.Sink.{Wrote}

@@ -1,5 +1,6 @@
 -- What devices have raised of their scripts.
-use Rattle.std.specs.Prelude.{◌≡◌, ℕ, ◌<◌, ◌≤◌, List, [], length, take, Some, slice_get, slice_index_or}
+use Rattle.std.specs.Prelude.{◌≡◌, ℕ, ◌<◌, ◌≤◌, List, [], length, take, Some, slice_get}
+use Rattle.std.specs.Prelude.{slice_index_or}
 use Rattle.atomic_table.specs.Seated.{TableId}
 use Rattle.board_file.specs.declared.board.BoardDevice.{BoardDevice}
 use Rattle.irq_inbox.specs.Seen.{DevSeen}

@@ -1,5 +1,6 @@
 -- A history: the steps and interrupts of a run, in order.
-use Rattle.std.specs.Prelude.{◌≡◌, ℕ, zero, suc, ◌+◌, ◌^◌, ◌<◌, ◌≤◌, ◌||◌, ◌&&◌, Bool, true, false, if◌then◌else◌, List, [], ◌∷◌, ◌++◌, All, count_by}
+use Rattle.std.specs.Prelude.{◌≡◌, ℕ, zero, suc, ◌+◌, ◌^◌, ◌<◌, ◌≤◌, ◌||◌, ◌&&◌, Bool, true, false}
+use Rattle.std.specs.Prelude.{if◌then◌else◌, List, [], ◌∷◌, ◌++◌, All, count_by}
 use Rattle.std.specs.List.{sum_by}
 use Rattle.tx_types.specs.Limits.{device_limit, step_limit, interrupt_limit}
 use Rattle.event_log.specs.declared.entry.Entry.{Entry}

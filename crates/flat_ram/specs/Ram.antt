@@ -2,9 +2,11 @@
 use Rattle.std.specs.Prelude.{ℕ, ◌+◌, List, ◌++◌, length, take, drop, slice_index, replicate}
 use Rattle.machine_words.specs.Number.{number_from, low_bytes}
 
--- the bytes with others in the place of those from an offset on; what would lie past the end is cut off
+-- the bytes with others in the place of those from an offset on; what would lie past the end is cut
+-- off
 abbrev pub over : List ℕ → ℕ → List ℕ → List ℕ
-over bytes at others = take (length bytes) (take at bytes ++ (others ++ drop (at + length others) bytes))
+over bytes at others =
+    take (length bytes) (take at bytes ++ (others ++ drop (at + length others) bytes))
 
 -- the number in the n bytes from an offset on, the lowest first
 abbrev pub number_at : List ℕ → ℕ → ℕ → ℕ

@@ -1,5 +1,6 @@
 -- Each kind of step keeps the inbox rule.
-use Rattle.std.proofs.Common.{◌≡◌, ◌≢◌, ℕ, zero, suc, ◌+◌, ◌<◌, ◌≤◌, true≢false, List, [], ◌∷◌, ◌++◌, length, set, slice_index_or, sym, refl, ap, ◌∙◌, subst, append_assoc, lt_of_not-le, ⊎_elim, arith}
+use Rattle.std.proofs.Common.{◌≡◌, ◌≢◌, ℕ, zero, suc, ◌+◌, ◌<◌, ◌≤◌, true≢false, List, [], ◌∷◌, ◌++◌, length, set, slice_index_or, sym, refl, ap, ◌∙◌, subst}
+use Rattle.std.proofs.Common.{append_assoc, lt_of_not-le, ⊎_elim, arith}
 use Rattle.std.proofs.lemmas.List.{length-set, length-append}
 use mathlib.Core.Option.{some, some-injective, some-ne-none}
 use lib.ListN.{get_elem?}
@@ -110,10 +111,14 @@ merges seat v other u is of items views h at two at' =
     let len : length (set vs other nobody) ≡ suc v.made = length-set vs other nobody ∙ (length-set views seat both ∙ mine.2) in
     let F : ℕ → Know → Type 0 = Fits (length (set vs other nobody)) (suc ended) got all in
     let knows : (d : ℕ) → d < suc ended → slice_index_or (v.known ++ u.sent ∷ []) d [] ≡ words d all =
-    λ d lt. one_known (λ k. words k all) v.known u.sent (λ k h'. mine.6 k (omega (arith, h', mine.3))) (theirs.1 ∙ ap (λ k. words k all) number) d (omega (arith, lt, mine.3)) in
+    λ d lt. one_known (λ k. words k all) v.known u.sent (λ k h'. mine.6 k (omega (arith, h', mine.3))) (theirs.1 ∙ ap (λ k. words k all) number) d
+    (omega (arith, lt, mine.3)) in
     let now : AllFit (λ j y. j ≢ other → F j y) vs =
     all_set (λ j y. j ≢ other → F j y) views seat both
-    (λ _. ((λ p. absurd (true≢false (sym p))), λ _. (mine.0, mine.1, len, omega (arith, length-append v.known (u.sent ∷ []), mine.3), omega (arith, theirs.0, here, mine.2, next), mine.5, knows)))
+    (λ _. (
+      (λ p. absurd (true≢false (sym p))),
+      λ _. (mine.0, mine.1, len, omega (arith, length-append v.known (u.sent ∷ []), mine.3), omega (arith, theirs.0, here, mine.2, next), mine.5, knows),
+    ))
     (λ j y ne e apart. (
       (λ p. let f = (h.2 j y e).0 p in (f.0, f.1, lt_of_not-le (λ le. apart (omega (arith, f.0, f.2, le, theirs.0, next))))),
       λ p. absurd (ne (((h.2 j y e).1 p).0 ∙ sym mine.0)),

@@ -12,7 +12,8 @@ below (x ∷ xs) zero v e = omega arith
 below (x ∷ xs) (suc seat) v e = let h = below xs seat v e in omega arith
 
 -- of one view more, a seat is an old one or the new one
-pub either_end : (views : List Know) (a b : Know) (seat : ℕ) → get_elem? (views ++ a ∷ []) seat ≡ some b → (get_elem? views seat ≡ some b) ⊎ ((seat ≡ length views) × (a ≡ b))
+pub either_end : (views : List Know) (a b : Know) (seat : ℕ) → get_elem? (views ++ a ∷ []) seat ≡ some b
+    → (get_elem? views seat ≡ some b) ⊎ ((seat ≡ length views) × (a ≡ b))
 either_end [] a b zero e = inr (refl, some-injective a b e)
 either_end [] a b (suc seat) e = absurd (some-ne-none b (sym e))
 either_end (x ∷ xs) a b zero e = inl e
@@ -34,8 +35,8 @@ all_end F views a old new j u e = ⊎_elim (λ (x : get_elem? views j ≡ some u
     (λ (x : (j ≡ length views) × (a ≡ u)). subst (λ (y : ℕ × Know). F y.0 y.1) (λ i. (sym x.0 i, x.1 i)) new) (either_end views a u j e)
 
 -- what is known of the first devices, and then of one more
-pub one_known : (P : ℕ → List ℕ) (known : List (List ℕ)) (last : List ℕ) → ((d : ℕ) → d < length known → slice_index_or known d [] ≡ P d) → last ≡ P (length known)
-    → (d : ℕ) → d < suc (length known) → slice_index_or (known ++ last ∷ []) d [] ≡ P d
+pub one_known : (P : ℕ → List ℕ) (known : List (List ℕ)) (last : List ℕ) → ((d : ℕ) → d < length known → slice_index_or known d [] ≡ P d)
+    → last ≡ P (length known) → (d : ℕ) → d < suc (length known) → slice_index_or (known ++ last ∷ []) d [] ≡ P d
 one_known P [] last f e zero lt = e
 one_known P [] last f e (suc d) lt = absurd (omega arith)
 one_known P (x ∷ xs) last f e zero lt = f zero (omega arith)

@@ -16,7 +16,8 @@ words-append d xs ys = flat_map-append (word_of d) xs ys
 
 one_more : (d n w : ℕ) (got items : List (ℕ × ℕ)) → words d (got ++ (items ++ (n, w) ∷ [])) ≡ words d (got ++ items) ++ word_of d (n, w)
 one_more d n w got items =
-    ap (words d) (sym (append_assoc got items ((n, w) ∷ []))) ∙ (words-append d (got ++ items) ((n, w) ∷ []) ∙ ap (λ t. words d (got ++ items) ++ t) (append-nil (word_of d (n, w))))
+    ap (words d) (sym (append_assoc got items ((n, w) ∷ [])))
+    ∙ (words-append d (got ++ items) ((n, w) ∷ []) ∙ ap (λ t. words d (got ++ items) ++ t) (append-nil (word_of d (n, w))))
 
 -- a word of the device itself goes last
 pub words-here : (d w : ℕ) (got items : List (ℕ × ℕ)) → words d (got ++ (items ++ (d, w) ∷ [])) ≡ words d (got ++ items) ++ w ∷ []
@@ -24,7 +25,8 @@ words-here d w got items = one_more d d w got items ∙ ap (λ t. words d (got +
 
 -- a word of another device changes nothing
 pub words-else : (d n w : ℕ) (got items : List (ℕ × ℕ)) → d ≢ n → words d (got ++ (items ++ (n, w) ∷ [])) ≡ words d (got ++ items)
-words-else d n w got items other = one_more d n w got items ∙ (ap (λ t. words d (got ++ items) ++ t) (one_else d n w other) ∙ append-nil (words d (got ++ items)))
+words-else d n w got items other =
+    one_more d n w got items ∙ (ap (λ t. words d (got ++ items) ++ t) (one_else d n w other) ∙ append-nil (words d (got ++ items)))
 
 not_none : (xs ys : List ℕ) (w : ℕ) → xs ++ (w ∷ ys) ≢ []
 not_none [] ys w e = absurd (omega (arith, ap length e))

@@ -23,8 +23,10 @@ pub record StepLaws : Type 0 where
   pub steps : (es : List Entry) → step_count (with_step es) ≡ step_count es + 1
   pub history : (devices : ℕ) (es : List Entry) → is_history devices es ≡ true → step_count es < 100000000 → is_history devices (with_step es) ≡ true
 
-pub step_keeps : (laws : StepLaws) (o : Origin) (box : TableId) (line : LaneSeen) (m m' : Recorded) (inbox : TableId) (pass : CpuSeen) (lane : LaneSeen) (put : PassSeen)
-    → Holds o box line m inbox pass lane put → step_count m.history < m.origin.board.steps → m' ≡ record m { history = with_step m.history } → Holds o box line m' inbox pass lane put
+pub step_keeps : (laws : StepLaws) (o : Origin) (box : TableId) (line : LaneSeen) (m m' : Recorded) (inbox : TableId) (pass : CpuSeen)
+    (lane : LaneSeen) (put : PassSeen)
+    → Holds o box line m inbox pass lane put → step_count m.history < m.origin.board.steps → m' ≡ record m { history = with_step m.history }
+    → Holds o box line m' inbox pass lane put
 step_keeps laws o box line m m' inbox pass lane put h room is =
     let few : step_count m.history < o.board.steps = subst (λ (y : Origin). step_count m.history < y.board.steps) h.began room in
     subst (λ y. Holds o box line y inbox pass lane put) (sym is) (record {
@@ -49,7 +51,8 @@ pub record IrqLaws : Type 0 where
   pub closed : (d w : ℕ) (es : List Entry) → closed (with_irq d w es) ≡ with_irq d w es
   pub interrupts : (d w : ℕ) (es : List Entry) → interrupts (with_irq d w es) ≡ interrupts es ++ (d, w) ∷ []
   pub steps : (d w : ℕ) (es : List Entry) → step_count (with_irq d w es) ≡ step_count es
-  pub history : (devices d w : ℕ) (es : List Entry) → is_history devices es ≡ true → d < devices → w < 2 ^ 32 → irq_count es < 65536 → is_history devices (with_irq d w es) ≡ true
+  pub history : (devices d w : ℕ) (es : List Entry) → is_history devices es ≡ true → d < devices → w < 2 ^ 32 → irq_count es < 65536
+      → is_history devices (with_irq d w es) ≡ true
 
 -- the pass has got one word more, and is else the same
 pub record GotMore (d w : ℕ) (pass pass' : CpuSeen) : Type 0 where
@@ -58,7 +61,8 @@ pub record GotMore (d w : ℕ) (pass pass' : CpuSeen) : Type 0 where
   pub devices : pass'.devices ≡ pass.devices
   pub gathered : pass'.gathered ≡ pass.gathered
 
-pub take_keeps : (laws : IrqLaws) (o : Origin) (box : TableId) (line : LaneSeen) (m m' : Recorded) (inbox : TableId) (pass pass' : CpuSeen) (lane : LaneSeen) (put put' : PassSeen) (d w : ℕ)
+pub take_keeps : (laws : IrqLaws) (o : Origin) (box : TableId) (line : LaneSeen) (m m' : Recorded) (inbox : TableId) (pass pass' : CpuSeen) (lane : LaneSeen)
+    (put put' : PassSeen) (d w : ℕ)
     → Holds o box line m inbox pass lane put → GotMore d w pass pass' → d < pass.devices → w < 2 ^ 32 → irq_count m.history < m.irqs
     → m' ≡ record m { history = with_irq d w m.history } → put' ≡ record put { entries = with_irq d w m.history } → Holds o box line m' inbox pass' lane put'
 take_keeps laws o box line m m' inbox pass pass' lane put put' d w h more below fits room is into =
@@ -75,7 +79,8 @@ take_keeps laws o box line m m' inbox pass pass' lane put put' d w h more below 
       steps = omega (arith, laws.steps d w m.history, h.steps);
       most = h.most;
       capacity = h.capacity;
-      history = laws.history (length o.board.devices) d w m.history h.history (omega (arith, below, h.devices)) fits (omega (arith, room, h.most, h.rules.scripts));
+      history =
+          laws.history (length o.board.devices) d w m.history h.history (omega (arith, below, h.devices)) fits (omega (arith, room, h.most, h.rules.scripts));
       rules = h.rules;
     })
 
@@ -93,13 +98,17 @@ pub record FewLaws : Type 0 where
   pub tested : (devices : ℕ) (es : List Entry) → is_history devices es ≡ true ↔ IsHistory devices es
 
 -- while there is room for an interrupt, the lane has room for all entries
-pub lane_fits : (laws : FewLaws) (o : Origin) (box : TableId) (line : LaneSeen) (m : Recorded) (inbox : TableId) (pass : CpuSeen) (lane : LaneSeen) (put : PassSeen)
+pub lane_fits : (laws : FewLaws) (o : Origin) (box : TableId) (line : LaneSeen) (m : Recorded) (inbox : TableId) (pass : CpuSeen)
+    (lane : LaneSeen) (put : PassSeen)
     → Holds o box line m inbox pass lane put → irq_count m.history < m.irqs → (length m.history < lane.most) × (length put.entries < lane.most)
 lane_fits laws o box line m inbox pass lane put h room =
     let is = (laws.tested (length o.board.devices) m.history).0 h.history in
-    let all : length m.history ≡ length (closed m.history) + length (unclosed m.history) = ap length (laws.whole m.history) ∙ length-append (closed m.history) (unclosed m.history) in
-    let most : lane.most ≡ 2 * m.irqs + 1 = ap (λ (y : LaneSeen). y.most) h.its_lane ∙ h.capacity in
-    (omega (arith, all, one_open m.history, laws.few m.history is.apart, room, most), omega (arith, ap length h.entries, laws.few m.history is.apart, room, most))
+    let all : length m.history ≡ length (closed m.history) + length (unclosed m.history) =
+    ap length (laws.whole m.history) ∙ length-append (closed m.history) (unclosed m.history) in
+    let most : lane.most ≡ 2 * m.irqs + 1 = ap (λ (y : LaneSeen). y.most) h.its_lane ∙ h.capacity in (
+      omega (arith, all, one_open m.history, laws.few m.history is.apart, room, most),
+      omega (arith, ap length h.entries, laws.few m.history is.apart, room, most),
+    )
 
 -- a pass that stays leaves a core what it keeps
 pub same_pass : (o : Origin) (box : TableId) (line : LaneSeen) (m : Recorded) (inbox : TableId) (pass pass' : CpuSeen) (lane : LaneSeen) (put : PassSeen)
@@ -107,7 +116,8 @@ pub same_pass : (o : Origin) (box : TableId) (line : LaneSeen) (m : Recorded) (i
 same_pass o box line m inbox pass pass' lane put h is = subst (λ y. Holds o box line m inbox y lane put) (sym is) h
 
 -- a step where one may be made, and else nothing, leaves a core what it keeps
-pub step_where_keeps : (laws : StepLaws) (o : Origin) (box : TableId) (line : LaneSeen) (m m' : Recorded) (inbox : TableId) (pass : CpuSeen) (lane : LaneSeen) (put : PassSeen) (may : Bool) (t : Turn)
+pub step_where_keeps : (laws : StepLaws) (o : Origin) (box : TableId) (line : LaneSeen) (m m' : Recorded) (inbox : TableId) (pass : CpuSeen) (lane : LaneSeen)
+    (put : PassSeen) (may : Bool) (t : Turn)
     → Holds o box line m inbox pass lane put → (may ≡ true → step_count m.history < m.origin.board.steps) → MatchBool may (t ≡ Stepped) (t ≡ Idle)
     → m' ≡ record m { history = after_turn m.history t } → Holds o box line m' inbox pass lane put
 step_where_keeps laws o box line m m' inbox pass lane put true t h room is made =

@@ -18,7 +18,8 @@ pub all_set : (F : ℕ → Know → Type 0) (views : List Know) (seat : ℕ) (w 
 all_set F views seat w mine others j u e = ⊎_elim (λ (x : (j ≡ seat) × (w ≡ u)). here F j seat w u mine x.0 x.1)
     (λ (x : (j ≢ seat) × (get_elem? views j ≡ some u)). others j u x.0 x.1) (at_set views seat j w u e)
 
-either_end : (views : List Know) (a b : Know) (seat : ℕ) → get_elem? (views ++ a ∷ []) seat ≡ some b → (get_elem? views seat ≡ some b) ⊎ ((seat ≡ length views) × (a ≡ b))
+either_end : (views : List Know) (a b : Know) (seat : ℕ) → get_elem? (views ++ a ∷ []) seat ≡ some b
+    → (get_elem? views seat ≡ some b) ⊎ ((seat ≡ length views) × (a ≡ b))
 either_end [] a b zero e = inr (refl, some-injective a b e)
 either_end [] a b (suc seat) e = absurd (some-ne-none b (sym e))
 either_end (x ∷ xs) a b zero e = inl e

@@ -1,4 +1,5 @@
--- Words and their bytes: memory is little-endian (RISC-V Unprivileged ISA Manual, introduction, "Memory").
+-- Words and their bytes: memory is little-endian (RISC-V Unprivileged ISA Manual, introduction,
+-- "Memory").
 use Rattle.std.specs.Prelude.{ℕ, ◌+◌, ◌*◌, ◌/◌, ◌%◌, List, [], ◌∷◌, slice_index}
 
 -- the number of four bytes, the lowest first
@@ -12,4 +13,5 @@ bytes_of_word w = w % 256 ∷ (w / 256 % 256) ∷ (w / 65536 % 256) ∷ (w / 167
 -- the word in the four bytes from a place on
 abbrev pub word_at : List ℕ → ℕ → ℕ
 word_at bytes i =
-    word (slice_index bytes i) (slice_index bytes (i + 1)) (slice_index bytes (i + 2)) (slice_index bytes (i + 3))
+    word (slice_index bytes i) (slice_index bytes (i + 1)) (slice_index bytes (i + 2))
+    (slice_index bytes (i + 3))

@@ -4,7 +4,7 @@
 //! threads.
 
 use crate::samples::{CODE, DATA, memory};
-use call_arguments::{name_at, pointer_refusal, put_word, put_words, word_at};
+use call_arguments::{message_at, name_at, pointer_refusal, put_word, put_words, word_at};
 use region_guard::Access::{Fetch, Load, Store};
 use region_guard::{Access, Guard};
 use std::test::Fail;
@@ -190,5 +190,29 @@ fn are_names(g: &mut Guard) -> bool {
 fn words_are_read_back_and_as_a_name(rt: HostRuntime) -> Result<(), Fail> {
     let mut g = memory(rt.alloc(), &[CODE, DATA])?;
     assert!(rt; are_put(&mut g) && are_names(&mut g));
+    Ok(())
+}
+
+/// Addresses, and the two words of the message there: of the three words above, and of the bytes
+/// 67, 68, 07, 00 and 00, 00, 6C, 6F in their midst.
+const MESSAGES: [(u32, [u32; 2]); 3] = [
+    (0x8000_01D4, [0x6867_6968, 7]),
+    (0x8000_01D8, [7, 0x0077_6F6C]),
+    (0x8000_01D6, [0x0007_6867, 0x6F6C_0000]),
+];
+
+/// The message at an address has these two words.
+fn is_message(g: &Guard, a: u32, words: &[u32]) -> bool {
+    let m = ModNo::new(0);
+    g.may(m, Load, a, 8) && message_at(g, m, a, 2).words() == words
+}
+
+#[test]
+fn messages_are_words_in_order(rt: HostRuntime) -> Result<(), Fail> {
+    let mut g = memory(rt.alloc(), &[CODE, DATA])?;
+    assert!(rt; are_put(&mut g));
+    for (a, words) in MESSAGES {
+        assert!(rt; is_message(&g, a, &words));
+    }
     Ok(())
 }

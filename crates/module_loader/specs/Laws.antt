@@ -1,5 +1,6 @@
 -- What is placed lies in free memory, and nothing lies twice.
-use Rattle.std.specs.Prelude.{◌≡◌, ◌⊎◌, ℕ, ◌+◌, ◌%◌, ◌<◌, ◌≤◌, List, [], ◌∷◌, All, AllPairs, Contains, Some, Ok}
+use Rattle.std.specs.Prelude.{◌≡◌, ◌⊎◌, ℕ, ◌+◌, ◌%◌, ◌<◌, ◌≤◌, List, [], ◌∷◌, All, AllPairs}
+use Rattle.std.specs.Prelude.{Contains, Some, Ok}
 use Rattle.module_loader.specs.Placement.{Taken, taken, placement}
 use Rattle.module_loader.specs.declared.placement.Placed.{Placed}
 use Rattle.module_loader.specs.declared.placement.Range.{Range}

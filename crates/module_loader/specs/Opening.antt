@@ -1,5 +1,6 @@
 -- The registers with which the threads of a placed module begin.
-use Rattle.std.specs.Prelude.{◌≡◌, ℕ, ◌+◌, ◌%◌, ◌^◌, ◌<◌, Bool, true, replicate, slice_set, if◌then◌else◌}
+use Rattle.std.specs.Prelude.{◌≡◌, ℕ, ◌+◌, ◌%◌, ◌^◌, ◌<◌, Bool, true, replicate, slice_set}
+use Rattle.std.specs.Prelude.{if◌then◌else◌}
 use Rattle.module_preamble.specs.Words.{has_callback}
 use Rattle.module_preamble.specs.declared.words.Preamble.{Preamble}
 use Rattle.rv_core.specs.Registers.{sp, gp, a0}

@@ -1,5 +1,6 @@
 -- Where modules lie: their code and data take memory from a list of free ranges, one after another.
-use Rattle.std.specs.Prelude.{◌≡◌, ⊤, ℕ, ◌+◌, ◌-◌, nat_le, nat_lt, Bool, if◌then◌else◌, List, [], ◌∷◌, ◌++◌, Option, Some, None, Result, Ok, Err}
+use Rattle.std.specs.Prelude.{◌≡◌, ⊤, ℕ, ◌+◌, ◌-◌, nat_le, nat_lt, Bool, if◌then◌else◌, List, []}
+use Rattle.std.specs.Prelude.{◌∷◌, ◌++◌, Option, Some, None, Result, Ok, Err}
 use Rattle.module_loader.specs.Want.{rounded_up}
 use Rattle.module_loader.specs.declared.placement.PlaceErr.{PlaceErr}
 use Rattle.module_loader.specs.declared.placement.PlaceErr.TheVariants.{NoMemory, NoRoom}

@@ -3,7 +3,8 @@ use Rattle.std.proofs.Common.{◌≡◌, ◌≤◌, ◌<◌, ◌%◌, ℕ, Bool,
 use Rattle.std.specs.List.{AllByRecursion}
 use Rattle.std.proofs.lemmas.Bool.Decides.{nat_tests}
 use Rattle.module_preamble.specs.Words.{words_of, has_callback}
-use Rattle.module_preamble.specs.Preamble.{Rule, judged, size_rules, entry_rules, priority_rules, stack_rules, is_entry, is_optional_entry, is_stack, IsEntry, IsStack, IsAccepted}
+use Rattle.module_preamble.specs.Preamble.{Rule, judged, size_rules, entry_rules, priority_rules, stack_rules, is_entry, is_optional_entry, is_stack, IsEntry}
+use Rattle.module_preamble.specs.Preamble.{IsStack, IsAccepted}
 use Rattle.module_preamble.specs.declared.rules.TheConstants.{MOST_DATA, PRIORITIES}
 use Rattle.module_preamble.specs.declared.words.Preamble.{Preamble}
 
@@ -47,7 +48,8 @@ where_callback false c h some = (cc)
 
 priorities : (p : Preamble) → AllByRecursion Holds (priority_rules p) → (p.start_prio < PRIORITIES) × (IsTrue (has_callback p) → p.callback_prio < PRIORITIES)
 unfolding priority_rules
-priorities p h = (grind (arith, nat_tests), λ some. let fits = where_callback (has_callback p) (nat_lt p.callback_prio PRIORITIES) h.1.0 some in grind (arith, nat_tests))
+priorities p h =
+    (grind (arith, nat_tests), λ some. let fits = where_callback (has_callback p) (nat_lt p.callback_prio PRIORITIES) h.1.0 some in grind (arith, nat_tests))
 
 stacks : (p : Preamble) → AllByRecursion Holds (stack_rules p) → IsStack p.start_stack × (IsTrue (has_callback p) → IsStack p.callback_stack)
 unfolding stack_rules
@@ -58,7 +60,8 @@ abbrev pub Passes : List Rule → Type 0
 Passes a = let unit : Unit {0} = tt in judged a unit ≡ Ok unit
 
 -- an image whose words pass each part of the table is accepted with them
-pub accepted : (bytes : List ℕ) (p : Preamble) → p ≡ words_of bytes → Passes (size_rules (length bytes) p) → Passes (entry_rules p) → Passes (priority_rules p) → Passes (stack_rules p) → IsAccepted bytes p
+pub accepted : (bytes : List ℕ) (p : Preamble) → p ≡ words_of bytes → Passes (size_rules (length bytes) p) → Passes (entry_rules p) → Passes (priority_rules p)
+    → Passes (stack_rules p) → IsAccepted bytes p
 accepted bytes p same size entry priority stack =
     let sized = sizes (length bytes) p (kept (size_rules (length bytes) p) tt tt size) in
     let entered = entries p (kept (entry_rules p) tt tt entry) in

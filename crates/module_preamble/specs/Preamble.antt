@@ -1,13 +1,17 @@
 -- The rules of a module preamble as a table in the order in which they are tested, and what reading
 -- an image gives (ThreadX Modules User Guide, "Module Preamble"; the bounds on sizes are this
 -- board's).
-use Rattle.std.specs.Prelude.{◌≡◌, ℕ, ◌%◌, ◌<◌, ◌≤◌, ◌==◌, nat_lt, nat_le, Bool, IsTrue, not, ◌&&◌, ◌||◌, if◌then◌else◌, List, [], ◌∷◌, ◌++◌, length, Result, Ok, Err}
+use Rattle.std.specs.Prelude.{◌≡◌, ℕ, ◌%◌, ◌<◌, ◌≤◌, ◌==◌, nat_lt, nat_le, Bool, IsTrue, not, ◌&&◌}
+use Rattle.std.specs.Prelude.{◌||◌, if◌then◌else◌, List, [], ◌∷◌, ◌++◌, length, Result, Ok, Err}
 use Rattle.std.specs.Int.{bit_at}
 use Rattle.tx_types.specs.Limits.{priority_count}
 use Rattle.module_preamble.specs.Words.{words_of, has_callback}
 use Rattle.module_preamble.specs.declared.words.Preamble.{Preamble}
 use Rattle.module_preamble.specs.declared.refusal.PreErr.{PreErr}
-use Rattle.module_preamble.specs.declared.refusal.PreErr.TheVariants.{Short, BadId, BadMajor, BadSize, BadProps, BadCode, BadData, BadEntry, BadPrio, BadStack}
+use Rattle.module_preamble.specs.declared.refusal.PreErr.TheVariants.{Short, BadId, BadMajor}
+use Rattle.module_preamble.specs.declared.refusal.PreErr.TheVariants.{BadSize, BadProps, BadCode}
+use Rattle.module_preamble.specs.declared.refusal.PreErr.TheVariants.{BadData, BadEntry, BadPrio}
+use Rattle.module_preamble.specs.declared.refusal.PreErr.TheVariants.{BadStack}
 
 -- words of a preamble, as its fourth word says
 abbrev pub preamble_words : ℕ

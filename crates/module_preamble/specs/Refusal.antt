@@ -2,7 +2,10 @@
 -- them.
 use Rattle.std.specs.Prelude.{ℕ, List, Option, Some, None, codes}
 use Rattle.module_preamble.specs.declared.refusal.PreErr.{PreErr}
-use Rattle.module_preamble.specs.declared.refusal.PreErr.TheVariants.{Short, BadId, BadMajor, BadSize, BadProps, BadCode, BadData, BadEntry, BadPrio, BadStack}
+use Rattle.module_preamble.specs.declared.refusal.PreErr.TheVariants.{Short, BadId, BadMajor}
+use Rattle.module_preamble.specs.declared.refusal.PreErr.TheVariants.{BadSize, BadProps, BadCode}
+use Rattle.module_preamble.specs.declared.refusal.PreErr.TheVariants.{BadData, BadEntry, BadPrio}
+use Rattle.module_preamble.specs.declared.refusal.PreErr.TheVariants.{BadStack}
 
 -- the name of the rule that is broken
 abbrev pub name_of : PreErr → List ℕ

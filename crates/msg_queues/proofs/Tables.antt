@@ -1,12 +1,15 @@
 -- What a call leaves of the table of queues.
-use Rattle.std.proofs.Common.{◌≡◌, ℕ, ◌<◌, List, [], ◌∷◌, ◌++◌, length, length-set, drop, slice_set, Option, None, Some, IfSome, ⊎_elim, refl, ap, sym, subst, ◌∙◌, arith, append_assoc}
+use Rattle.std.proofs.Common.{◌≡◌, ℕ, ◌<◌, List, [], ◌∷◌, ◌++◌, length, length-set, drop, slice_set, Option, None, Some, IfSome, ⊎_elim, refl, ap, sym, subst}
+use Rattle.std.proofs.Common.{◌∙◌, arith, append_assoc}
 use Rattle.std.proofs.lemmas.Bool.{cases_lt}
 use Rattle.std.proofs.lemmas.List.{append-nil, get_or-set_same, get_or-set_other, get_or_past, set_past, length-replicate}
 use Rattle.std.proofs.lemmas.List.Elements.{All-set, All-replicate}
 use Rattle.std.specs.List.{slice_get}
 use Rattle.std.specs.Option.{option_to_list}
 use Rattle.msg_queues.specs.Entry.{Queue, IsQueue, empty_queue, words_in, capacity_in, messages_in, room_in, holding}
-use Rattle.msg_queues.specs.Laws.{Create, Remove, PushBack, PushFront, Pop, Flush, CallsKeepTheTable, CallsSpareOthers, CreatedIsThere, RemovedIsGone, PushedBackIsLast, PushedFrontIsFirst, PoppedLeavesTheRest, FlushedIsEmpty, SizesStay, Send, Receive, after_turn, after_turns, all_sent, all_received, FirstInFirstOut}
+use Rattle.msg_queues.specs.Laws.{Create, Remove, PushBack, PushFront, Pop, Flush, CallsKeepTheTable, CallsSpareOthers, CreatedIsThere, RemovedIsGone}
+use Rattle.msg_queues.specs.Laws.{PushedBackIsLast, PushedFrontIsFirst, PoppedLeavesTheRest, FlushedIsEmpty, SizesStay, Send, Receive, after_turn, after_turns}
+use Rattle.msg_queues.specs.Laws.{all_sent, all_received, FirstInFirstOut}
 use Rattle.msg_queues.specs.Queues.{IsQueueTable, no_queues, queue_of, messages_of, with_messages, popped}
 use Rattle.msg_queues.proofs.Entries.{empty_is_queue, pushed_back_keeps, pushed_front_keeps, popped_keeps, flushed_keeps}
 

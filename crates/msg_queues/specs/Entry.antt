@@ -1,5 +1,6 @@
 -- A queue and its messages, and an entry that has one or none.
-use Rattle.std.specs.Prelude.{ℕ, ◌≡◌, ◌-◌, ◌*◌, ◌≤◌, List, [], All, length, Option, None, Some, IfNone, IfSome}
+use Rattle.std.specs.Prelude.{ℕ, ◌≡◌, ◌-◌, ◌*◌, ◌≤◌, List, [], All, length, Option, None, Some}
+use Rattle.std.specs.Prelude.{IfNone, IfSome}
 use Rattle.std.specs.Option.{option_map, option_map_or}
 use Rattle.tx_types.specs.Limits.{message_limit}
 use Rattle.msg_queues.specs.declared.entry.Shape.{Shape}

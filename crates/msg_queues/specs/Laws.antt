@@ -1,7 +1,10 @@
 -- What holds over all calls of a table of queues.
-use Rattle.std.specs.Prelude.{ℕ, ◌≡◌, ◌≢◌, ◌<◌, List, [], ◌∷◌, ◌++◌, length, drop, Option, None, Some, option_to_list, ⊤}
+use Rattle.std.specs.Prelude.{ℕ, ◌≡◌, ◌≢◌, ◌<◌, List, [], ◌∷◌, ◌++◌, length, drop, Option, None}
+use Rattle.std.specs.Prelude.{Some, option_to_list, ⊤}
 use Rattle.msg_queues.specs.Entry.{Queue, IsShape, empty_queue}
-use Rattle.msg_queues.specs.Queues.{IsQueueTable, queue_of, words_of, capacity_of, messages_of, room_of, message_at, created, removed, with_messages, pushed_back, pushed_front, popped, flushed}
+use Rattle.msg_queues.specs.Queues.{IsQueueTable, queue_of, words_of, capacity_of, messages_of}
+use Rattle.msg_queues.specs.Queues.{room_of, message_at, created, removed, with_messages}
+use Rattle.msg_queues.specs.Queues.{pushed_back, pushed_front, popped, flushed}
 
 -- the calls that change the table
 pub data Call : Type 0 where

@@ -1,8 +1,10 @@
 -- The table of queues, by the number of their object, and what each call leaves of it.
-use Rattle.std.specs.Prelude.{ℕ, ◌≡◌, List, [], ◌∷◌, ◌++◌, All, length, drop, replicate, slice_get, slice_set, Option, None, Some, IfSome}
+use Rattle.std.specs.Prelude.{ℕ, ◌≡◌, List, [], ◌∷◌, ◌++◌, All, length, drop, replicate, slice_get}
+use Rattle.std.specs.Prelude.{slice_set, Option, None, Some, IfSome}
 use Rattle.std.specs.List.{slice_index_or}
 use Rattle.tx_types.specs.Limits.{slot_limit}
-use Rattle.msg_queues.specs.Entry.{Queue, IsQueue, empty_queue, words_in, capacity_in, messages_in, room_in, holding}
+use Rattle.msg_queues.specs.Entry.{Queue, IsQueue, empty_queue, words_in, capacity_in, messages_in}
+use Rattle.msg_queues.specs.Entry.{room_in, holding}
 
 -- no object is a queue
 abbrev pub no_queues : List (Option Queue)

@@ -1,11 +1,13 @@
 -- Every call keeps the table's rules, and no slot goes back to a generation whose references are dead.
-use Rattle.std.proofs.Common.{◌≡◌, ℕ, ◌+◌, ◌-◌, ◌^◌, ◌≤◌, ◌<◌, Bool, true, false, not, nat_lt, List, [], ◌∷◌, Option, None, Some, position, refl, ap, subst, ◌∙◌, arith}
+use Rattle.std.proofs.Common.{◌≡◌, ℕ, ◌+◌, ◌-◌, ◌^◌, ◌≤◌, ◌<◌, Bool, true, false, not, nat_lt, List, [], ◌∷◌, Option, None, Some, position, refl, ap, subst}
+use Rattle.std.proofs.Common.{◌∙◌, arith}
 use Rattle.std.proofs.lemmas.Bool.{and_parts, cond-true, cond-false, cond_both, eqb-true, ltb-true}
 use Rattle.std.proofs.lemmas.List.Quantifiers.{position-Some}
 use Rattle.std.proofs.lemmas.Option.{cond_some}
 use Rattle.tx_types.specs.Reference.{slot_of, generation_of}
 use Rattle.tx_types.specs.declared.kind.Kind.{Kind}
-use Rattle.object_grants.specs.Laws.{Call, Allocate, Deallocate, FreeSlot, MakeLive, MakeEmpty, Grant, Revoke, Restore, called, MayCall, all_called, MayCallAll, lowest_alive, IsDead, CallsKeepTheTable, FreeEndsReferences, DeadStaysDead, DeadFindsNothing, ReferenceDiesWithItsSlot}
+use Rattle.object_grants.specs.Laws.{Call, Allocate, Deallocate, FreeSlot, MakeLive, MakeEmpty, Grant, Revoke, Restore, called, MayCall, all_called, MayCallAll}
+use Rattle.object_grants.specs.Laws.{lowest_alive, IsDead, CallsKeepTheTable, FreeEndsReferences, DeadStaysDead, DeadFindsNothing, ReferenceDiesWithItsSlot}
 use Rattle.object_grants.specs.Slot.{IsSlot, is_in, is_usable, is_granted, is_own_empty, is_live_for, last_generation, free_slot}
 use Rattle.object_grants.specs.Table.{IsTable, slot, names, named, named_slot, with_slot, allocated, allocated_at, after_free}
 use Rattle.object_grants.specs.declared.slot.Slot.{Slot}

@@ -1,9 +1,12 @@
 -- What holds of the table and of references over all calls.
-use Rattle.std.specs.Prelude.{ℕ, ◌≡◌, ◌+◌, ◌≤◌, ◌<◌, true, false, List, [], ◌∷◌, None, Some, ⊤, if◌then◌else◌}
+use Rattle.std.specs.Prelude.{ℕ, ◌≡◌, ◌+◌, ◌≤◌, ◌<◌, true, false, List, [], ◌∷◌, None, Some, ⊤}
+use Rattle.std.specs.Prelude.{if◌then◌else◌}
 use Rattle.tx_types.specs.Reference.{slot_of, generation_of}
 use Rattle.tx_types.specs.declared.kind.Kind.{Kind}
 use Rattle.object_grants.specs.Slot.{IsSlot, is_in, is_empty_for, is_live_for}
-use Rattle.object_grants.specs.Table.{IsTable, slot, named_slot, with_slot, after_allocate, after_deallocate, after_free, after_make_live, after_make_empty, after_grant, after_revoke}
+use Rattle.object_grants.specs.Table.{IsTable, slot, named_slot, with_slot, after_allocate}
+use Rattle.object_grants.specs.Table.{after_deallocate, after_free, after_make_live}
+use Rattle.object_grants.specs.Table.{after_make_empty, after_grant, after_revoke}
 use Rattle.object_grants.specs.declared.slot.Slot.{Slot}
 use Rattle.object_grants.specs.declared.slot.SlotState.TheVariants.{Free}
 

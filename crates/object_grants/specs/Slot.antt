@@ -1,5 +1,6 @@
 -- A slot of the table of kernel objects: its state, whose it is, and who else may use it.
-use Rattle.std.specs.Prelude.{ℕ, ◌-◌, ◌^◌, if◌then◌else◌, ◌==◌, ◌&&◌, ◌||◌, ◌≡◌, ◌<◌, ◌≤◌, Bool, false, not, nat_lt, List, [], None, is_some}
+use Rattle.std.specs.Prelude.{ℕ, ◌-◌, ◌^◌, if◌then◌else◌, ◌==◌, ◌&&◌, ◌||◌, ◌≡◌, ◌<◌, ◌≤◌, Bool}
+use Rattle.std.specs.Prelude.{false, not, nat_lt, List, [], None, is_some}
 use Rattle.std.specs.Option.{option_map_or}
 use Rattle.std.specs.Str.{bytes_eq}
 use Rattle.machine_words.specs.Bits.{bits}

@@ -1,5 +1,6 @@
 -- The table of kernel object slots, what a reference names in it, and what each call leaves of it.
-use Rattle.std.specs.Prelude.{ℕ, ◌≡◌, ◌+◌, ◌==◌, ◌&&◌, Bool, List, [], length, All, position, slice_set, Option, None, Some, bit_or, ◌^◌, if◌then◌else◌}
+use Rattle.std.specs.Prelude.{ℕ, ◌≡◌, ◌+◌, ◌==◌, ◌&&◌, Bool, List, [], length, All, position}
+use Rattle.std.specs.Prelude.{slice_set, Option, None, Some, bit_or, ◌^◌, if◌then◌else◌}
 use Rattle.std.specs.List.{slice_index_or}
 use Rattle.tx_types.specs.Limits.{slot_limit}
 use Rattle.tx_types.specs.Reference.{reference, slot_of, generation_of}

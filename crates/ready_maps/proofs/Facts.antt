@@ -1,17 +1,23 @@
 -- What holds of the scheduler's state is kept by every move.
-use Rattle.std.proofs.Common.{◌≡◌, ◌≢◌, ℕ, ◌<◌, ◌≤◌, ◌==◌, true, false, not, nat_le, nat_lt, List, [], ◌∷◌, length, find, All, AllPairs, Option, None, Some, slice_index, slice_index_or, drop, fold, replicate, if◌then◌else◌, ⊎_elim, arith, ap, subst, sym, ◌∙◌, refl, length-set, get_or-set_same, get_or-set_other}
+use Rattle.std.proofs.Common.{◌≡◌, ◌≢◌, ℕ, ◌<◌, ◌≤◌, ◌==◌, true, false, not, nat_le, nat_lt, List, [], ◌∷◌, length, find, All, AllPairs, Option, None, Some}
+use Rattle.std.proofs.Common.{slice_index, slice_index_or, drop, fold, replicate, if◌then◌else◌, ⊎_elim, arith, ap, subst, sym, ◌∙◌, refl, length-set}
+use Rattle.std.proofs.Common.{get_or-set_same, get_or-set_other}
 use Rattle.std.proofs.lemmas.List.{get_or-replicate, get_or_past}
-use Rattle.std.proofs.lemmas.Bool.{cond_both, cond-true, cond-false, eq-eqb, eqb-true, eqb-false, leb-true, leb-false, ltb-true, ltb-false, ne_eqb, cases_eq, cases_lt, not_from_false, or_from}
+use Rattle.std.proofs.lemmas.Bool.{cond_both, cond-true, cond-false, eq-eqb, eqb-true, eqb-false, leb-true, leb-false, ltb-true, ltb-false, ne_eqb, cases_eq}
+use Rattle.std.proofs.lemmas.Bool.{cases_lt, not_from_false, or_from}
 use Rattle.std.proofs.lemmas.List.Elements.{All-drop, All-filter, All-head, All-nil, All-same, All-tail}
 use Rattle.std.proofs.lemmas.List.Kept.{AllPairs-filter}
 use Rattle.std.specs.List.{list_any, slice_get}
 use Rattle.std.specs.Option.{option_map_or, IfSome}
 use Rattle.ready_maps.specs.Sched.{Sched, pr, th, has, without, last_in, first_in, first_at, is_ready, runs, best, pick, picked, picked_before}
-use Rattle.ready_maps.specs.Moves.{taken_out, placed_last, placed_first, holding, challenged, readied, unreadied, yielded, yielded_by, giving_way, released, with_threshold, threshold_set, with_numbers, placed_again, priority_set, placed_all, restored}
+use Rattle.ready_maps.specs.Moves.{taken_out, placed_last, placed_first, holding, challenged, readied, unreadied, yielded, yielded_by, giving_way, released}
+use Rattle.ready_maps.specs.Moves.{with_threshold, threshold_set, with_numbers, placed_again, priority_set, placed_all, restored}
 use Rattle.ready_maps.specs.Kept.{IsLaidOut, MayRun, RunsRightly, IsKept}
 use Rattle.ready_maps.specs.Laws.{Move, moved, MayMove, MovesKeepTheFacts}
 use Rattle.ready_maps.specs.Laws.Move.{Ready, Unready, Yield, SetThreshold, SetPriority}
-use Rattle.ready_maps.proofs.ListFacts.{room, pigeonhole, length-all_last, first_has, first_then, first_before, AllPairs-rest, no_first, any_not, find-filter, find_has, find_agree, has_not, without_is_not, All-last_in, sorted-last_in, sorted-first_in, climbing-first_in, distinct-last_in, distinct-first_in, find-last_in, find-first_in, first_in_is_first, last_in_is_first, All-first_in}
+use Rattle.ready_maps.proofs.ListFacts.{room, pigeonhole, length-all_last, first_has, first_then, first_before, AllPairs-rest, no_first, any_not, find-filter}
+use Rattle.ready_maps.proofs.ListFacts.{find_has, find_agree, has_not, without_is_not, All-last_in, sorted-last_in, sorted-first_in, climbing-first_in}
+use Rattle.ready_maps.proofs.ListFacts.{distinct-last_in, distinct-first_in, find-last_in, find-first_in, first_in_is_first, last_in_is_first, All-first_in}
 
 -- which thread runs is nothing to the lists
 same_lists_laid : (s : Sched) (run : Option ℕ) → IsLaidOut s → IsLaidOut (record s { run = run })

@@ -2,7 +2,8 @@
 -- thread that runs in its place is below its threshold. A held thread stays well held, since whoever
 -- runs or is held in another's place has a priority no larger, and the first holder, which runs
 -- again, is below each later one.
-use Rattle.std.proofs.Common.{◌≡◌, ◌≢◌, ℕ, ◌<◌, ◌≤◌, ◌==◌, ◌||◌, true, false, not, nat_le, nat_lt, suc, List, [], ◌∷◌, drop, filter, All, AllPairs, Option, None, Some, ⊎_elim, subst, sym, ap, ◌∙◌, refl, arith}
+use Rattle.std.proofs.Common.{◌≡◌, ◌≢◌, ℕ, ◌<◌, ◌≤◌, ◌==◌, ◌||◌, true, false, not, nat_le, nat_lt, suc, List, [], ◌∷◌, drop, filter, All, AllPairs, Option}
+use Rattle.std.proofs.Common.{None, Some, ⊎_elim, subst, sym, ap, ◌∙◌, refl, arith}
 use Rattle.std.specs.Prelude.{IfSome}
 use Rattle.std.proofs.lemmas.Bool.{cond_both, or_cases, and_parts, both_ways, eqb-true, false≢true, leb-false, ltb-true}
 use Rattle.std.proofs.lemmas.List.{get_or-set_same, get_or-set_other}

@@ -1,6 +1,7 @@
 -- Who joins the holders, and who leaves them: whoever gives way with a threshold below its priority
 -- joins, and a ready thread leaves only to run.
-use Rattle.std.proofs.Common.{◌≡◌, ◌≢◌, ℕ, ◌<◌, ◌==◌, ◌||◌, true, false, not, nat_le, nat_lt, List, [], ◌∷◌, drop, Option, None, Some, ⊎_elim, subst, sym, ap, ◌∙◌, refl}
+use Rattle.std.proofs.Common.{◌≡◌, ◌≢◌, ℕ, ◌<◌, ◌==◌, ◌||◌, true, false, not, nat_le, nat_lt, List, [], ◌∷◌, drop, Option, None, Some, ⊎_elim, subst, sym, ap}
+use Rattle.std.proofs.Common.{◌∙◌, refl}
 use Rattle.std.proofs.lemmas.Bool.{cond_both, or_cases, or_left, or_right, and_parts, and_from, both_ways, eq-eqb, lt-ltb, ne_eqb, not_from_false}
 use Rattle.std.specs.List.{slice_get}
 use Rattle.std.specs.Option.{option_map_or}

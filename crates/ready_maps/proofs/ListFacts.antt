@@ -1,6 +1,9 @@
 -- Lists of threads: searches in parts of a list, one thread put in, and how many threads there can be.
-use Rattle.std.proofs.Common.{◌≡◌, ◌≢◌, ℕ, zero, suc, ◌<◌, ◌≤◌, ◌+◌, ◌==◌, Bool, true, false, not, nat_le, nat_lt, List, [], ◌∷◌, ◌++◌, length, filter, find, All, AllPairs, None, Some, insert, fold, take, drop, slice_index_or, position, ⊎_elim, arith, ap, subst, sym, ◌∙◌, refl, length-append}
-use Rattle.std.proofs.lemmas.Bool.{cond_both, eq-eqb, eqb-true, eqb-false, leb-true, ltb-true, le-leb, ltb-false, lt-ltb, ne_eqb, not-true, not_from_false, not_from_true, or_parts, cases_lt}
+use Rattle.std.proofs.Common.{◌≡◌, ◌≢◌, ℕ, zero, suc, ◌<◌, ◌≤◌, ◌+◌, ◌==◌, Bool, true, false, not, nat_le, nat_lt, List, [], ◌∷◌, ◌++◌, length, filter, find}
+use Rattle.std.proofs.Common.{All, AllPairs, None, Some, insert, fold, take, drop, slice_index_or, position, ⊎_elim, arith, ap, subst, sym, ◌∙◌, refl}
+use Rattle.std.proofs.Common.{length-append}
+use Rattle.std.proofs.lemmas.Bool.{cond_both, eq-eqb, eqb-true, eqb-false, leb-true, ltb-true, le-leb, ltb-false, lt-ltb, ne_eqb, not-true, not_from_false}
+use Rattle.std.proofs.lemmas.Bool.{not_from_true, or_parts, cases_lt}
 use Rattle.std.proofs.lemmas.Bool.Decides.{nat_tests}
 use Rattle.std.proofs.lemmas.List.Elements.{All-append, All-cons, All-filter, All-head, All-nil, All-tail, All-weaker, filter_passes}
 use Rattle.std.proofs.lemmas.List.Kept.{AllPairs-cons, AllPairs-filter}

@@ -1,5 +1,6 @@
 -- The laws of preemption-threshold, over every list of moves.
-use Rattle.std.specs.Prelude.{◌≡◌, ◌≢◌, ℕ, ◌<◌, ◌≤◌, true, false, List, [], ◌∷◌, All, Some, IfSome, IsSome, ⊤}
+use Rattle.std.specs.Prelude.{◌≡◌, ◌≢◌, ℕ, ◌<◌, ◌≤◌, true, false, List, [], ◌∷◌, All, Some, IfSome}
+use Rattle.std.specs.Prelude.{IsSome, ⊤}
 use Rattle.tx_types.specs.Limits.{slot_limit}
 use Rattle.ready_maps.specs.Sched.{Sched, pr, th, is_ready, is_held, runs}
 use Rattle.ready_maps.specs.Moves.{readied, unreadied, yielded, threshold_set, priority_set}

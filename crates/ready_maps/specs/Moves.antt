@@ -1,8 +1,10 @@
 -- The five moves of the scheduler, and how a state is set up anew. Where a thread stands after a
 -- change is this board's own rule.
-use Rattle.std.specs.Prelude.{ℕ, ◌==◌, nat_lt, List, [], ◌∷◌, slice_set, Option, None, Some, if◌then◌else◌}
+use Rattle.std.specs.Prelude.{ℕ, ◌==◌, nat_lt, List, [], ◌∷◌, slice_set, Option, None, Some}
+use Rattle.std.specs.Prelude.{if◌then◌else◌}
 use Rattle.std.specs.List.{list_any}
-use Rattle.ready_maps.specs.Sched.{Sched, pr, th, without, last_in, first_in, is_ready, runs, best, pick}
+use Rattle.ready_maps.specs.Sched.{Sched, pr, th, without, last_in, first_in, is_ready, runs, best}
+use Rattle.ready_maps.specs.Sched.{pick}
 
 -- a thread that is ready no longer
 abbrev pub taken_out : Sched → ℕ → Sched

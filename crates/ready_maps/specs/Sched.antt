@@ -1,6 +1,8 @@
 -- The scheduler's state (ThreadX User Guide, "Preemption-Threshold"), and which thread is the next
 -- to run.
-use Rattle.std.specs.Prelude.{ℕ, ◌==◌, Bool, false, nat_le, nat_lt, not, List, ◌∷◌, ◌++◌, drop, slice_index, filter, find, Option, None, Some, if◌then◌else◌, [], replicate}
+use Rattle.std.specs.Prelude.{ℕ, ◌==◌, Bool, false, nat_le, nat_lt, not, List, ◌∷◌, ◌++◌, drop}
+use Rattle.std.specs.Prelude.{slice_index, filter, find, Option, None, Some, if◌then◌else◌, []}
+use Rattle.std.specs.Prelude.{replicate}
 use Rattle.std.specs.List.{slice_get, list_any, after_first}
 use Rattle.std.specs.Option.{option_map_or}
 use Rattle.tx_types.specs.Limits.{slot_limit}

@@ -1,5 +1,6 @@
 -- A region that is added, and why it may be refused.
-use Rattle.std.specs.Prelude.{ℕ, ◌==◌, [], ◌∷◌, ◌++◌, length, Option, Some, None, Result, Ok, Err, position, if◌then◌else◌}
+use Rattle.std.specs.Prelude.{ℕ, ◌==◌, [], ◌∷◌, ◌++◌, length, Option, Some, None, Result, Ok, Err}
+use Rattle.std.specs.Prelude.{position, if◌then◌else◌}
 use Rattle.tx_types.specs.Limits.{region_limit}
 use Rattle.region_guard.specs.Memory.{Memory}
 use Rattle.region_guard.specs.Region.{meets}

@@ -3,7 +3,8 @@
 use Rattle.std.specs.Prelude.{◌≡◌, ◌⊎◌, ℕ, ◌+◌, ◌%◌, ◌^◌, ◌<◌, ◌≤◌, true, List, length, slice_index}
 use Rattle.machine_words.specs.Number.{after_store}
 use Rattle.flat_ram.specs.Laws.{IsOutside}
-use Rattle.region_guard.specs.Memory.{Memory, IsRangeInRam, IsSound, may, byte, number, with_bytes, with_number, ram_base}
+use Rattle.region_guard.specs.Memory.{Memory, IsRangeInRam, IsSound, may, byte, number, with_bytes}
+use Rattle.region_guard.specs.Memory.{with_number, ram_base}
 use Rattle.region_guard.specs.declared.region.Access.{Access}
 
 -- a range that may be used lies in RAM, where it has an address

@@ -1,5 +1,7 @@
 -- Guarded memory: RAM from an address on, and the regions in which it may be used.
-use Rattle.std.specs.Prelude.{◌≡◌, ℕ, ◌+◌, ◌-◌, ◌<◌, ◌≤◌, ◌^◌, ◌==◌, ◌||◌, ◌&&◌, Bool, false, not, nat_le, List, length, slice_index, slice_range, All, AllPairs, if◌then◌else◌}
+use Rattle.std.specs.Prelude.{◌≡◌, ℕ, ◌+◌, ◌-◌, ◌<◌, ◌≤◌, ◌^◌, ◌==◌, ◌||◌, ◌&&◌, Bool, false, not}
+use Rattle.std.specs.Prelude.{nat_le, List, length, slice_index, slice_range, All, AllPairs}
+use Rattle.std.specs.Prelude.{if◌then◌else◌}
 use Rattle.std.specs.List.{list_any}
 use Rattle.machine_words.specs.Number.{number_from, low_bytes}
 use Rattle.tx_types.specs.Limits.{region_limit}

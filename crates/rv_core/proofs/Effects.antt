@@ -2,7 +2,8 @@
 use Rattle.std.proofs.Common.{◌≡◌, ℕ, ℤ, Bool, true, false, cond, Result, Ok, Err, refl}
 use Rattle.rv_decode.specs.declared.Instr.{Instr}
 use Rattle.rv_decode.specs.declared.Instr.TheVariants.{Jal, Jalr, Beq, Bne, Blt, Bge, Bltu, Bgeu, Lb, Lh, Lw, Lbu, Lhu, Sb, Sh, Sw, Ecall}
-use Rattle.rv_core.specs.Execute.{Effect, Completes, Stores, Calls, Faults, effect, jumps, goes_to, branches, loads_by, stores_by, hart_after, bus_after, out_of, Stored}
+use Rattle.rv_core.specs.Execute.{Effect, Completes, Stores, Calls, Faults, effect, jumps, goes_to, branches, loads_by, stores_by, hart_after, bus_after}
+use Rattle.rv_core.specs.Execute.{out_of, Stored}
 use Rattle.rv_core.specs.Memory.{Memory}
 use Rattle.rv_core.specs.Hart.{HartState, advanced}
 use Rattle.rv_core.specs.declared.bus.Cause.{Cause}

@@ -1,7 +1,8 @@
 -- The operations on words (RISC-V Unprivileged ISA Manual, "Integer Computational Instructions" and
 -- the M extension). A word is a number below 2^32; `signed 32` reads it as a signed number, and
 -- `word_of` takes an integer modulo 2^32.
-use Rattle.std.specs.Prelude.{ℕ, ℤ, pos, ◌+◌, ◌-◌, ◌*◌, ◌/◌, ◌%◌, ◌^◌, ◌-ℤ◌, ◌==◌, Bool, if◌then◌else◌}
+use Rattle.std.specs.Prelude.{ℕ, ℤ, pos, ◌+◌, ◌-◌, ◌*◌, ◌/◌, ◌%◌, ◌^◌, ◌-ℤ◌, ◌==◌, Bool}
+use Rattle.std.specs.Prelude.{if◌then◌else◌}
 use Rattle.std.specs.Int.{int_div_euclid}
 use Rattle.std.specs.Int.RustNames.{int_lt, int_div, int_rem}
 use Rattle.machine_words.specs.Bits.{signed, word_of}

@@ -1,7 +1,9 @@
 -- The numbers of the causes, as reports print them.
 use Rattle.std.specs.Prelude.{ℕ}
 use Rattle.rv_core.specs.declared.bus.Cause.{Cause}
-use Rattle.rv_core.specs.declared.bus.Cause.TheVariants.{FetchMisaligned, FetchOutside, Illegal, Breakpoint, LoadMisaligned, LoadOutside, StoreMisaligned, StoreOutside}
+use Rattle.rv_core.specs.declared.bus.Cause.TheVariants.{FetchMisaligned, FetchOutside, Illegal}
+use Rattle.rv_core.specs.declared.bus.Cause.TheVariants.{Breakpoint, LoadMisaligned, LoadOutside}
+use Rattle.rv_core.specs.declared.bus.Cause.TheVariants.{StoreMisaligned, StoreOutside}
 
 abbrev pub cause_number : Cause → ℕ
 cause_number FetchMisaligned = 0

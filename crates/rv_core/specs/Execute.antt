@@ -1,12 +1,21 @@
 -- One instruction: what it does to a hart and to memory (RISC-V Unprivileged ISA Manual, RV32I and
 -- the M extension).
-use Rattle.std.specs.Prelude.{ℕ, ℤ, pos, ◌+◌, ◌*◌, ◌/◌, ◌%◌, ◌^◌, ◌+ℤ◌, ◌*ℤ◌, ◌==◌, nat_lt, nat_le, bit_and, bit_or, bit_xor, Bool, not, Option, None, Some, Result, Ok, Err, if◌then◌else◌}
+use Rattle.std.specs.Prelude.{ℕ, ℤ, pos, ◌+◌, ◌*◌, ◌/◌, ◌%◌, ◌^◌, ◌+ℤ◌, ◌*ℤ◌, ◌==◌, nat_lt, nat_le}
+use Rattle.std.specs.Prelude.{bit_and, bit_or, bit_xor, Bool, not, Option, None, Some, Result, Ok}
+use Rattle.std.specs.Prelude.{Err, if◌then◌else◌}
 use Rattle.std.specs.Int.RustNames.{int_lt}
 use Rattle.machine_words.specs.Bits.{signed, word_of}
 use Rattle.rv_decode.specs.Decode.{decoded}
 use Rattle.rv_decode.specs.declared.Instr.{Instr}
-use Rattle.rv_decode.specs.declared.Instr.TheVariants.{Lui, Auipc, Jal, Jalr, Beq, Bne, Blt, Bge, Bltu, Bgeu, Lb, Lh, Lw, Lbu, Lhu, Sb, Sh, Sw, Addi, Slti, Sltiu, Xori, Ori, Andi, Slli, Srli, Srai, Add, Sub, Sll, Slt, Sltu, Xor, Srl, Sra, Or, And, Fence, Ecall, Ebreak, Mul, Mulh, Mulhsu, Mulhu, Div, Divu, Rem, Remu}
-use Rattle.rv_core.specs.Arithmetic.{int, flag, sum, difference, shifted_left, shifted_right, shifted_right_signed, less_signed, product_low, high_word, quotient, remainder, quotient_unsigned, remainder_unsigned}
+use Rattle.rv_decode.specs.declared.Instr.TheVariants.{Lui, Auipc, Jal, Jalr, Beq, Bne, Blt, Bge}
+use Rattle.rv_decode.specs.declared.Instr.TheVariants.{Bltu, Bgeu, Lb, Lh, Lw, Lbu, Lhu, Sb, Sh, Sw}
+use Rattle.rv_decode.specs.declared.Instr.TheVariants.{Addi, Slti, Sltiu, Xori, Ori, Andi, Slli}
+use Rattle.rv_decode.specs.declared.Instr.TheVariants.{Srli, Srai, Add, Sub, Sll, Slt, Sltu, Xor}
+use Rattle.rv_decode.specs.declared.Instr.TheVariants.{Srl, Sra, Or, And, Fence, Ecall, Ebreak, Mul}
+use Rattle.rv_decode.specs.declared.Instr.TheVariants.{Mulh, Mulhsu, Mulhu, Div, Divu, Rem, Remu}
+use Rattle.rv_core.specs.Arithmetic.{int, flag, sum, difference, shifted_left, shifted_right}
+use Rattle.rv_core.specs.Arithmetic.{shifted_right_signed, less_signed, product_low, high_word}
+use Rattle.rv_core.specs.Arithmetic.{quotient, remainder, quotient_unsigned, remainder_unsigned}
 use Rattle.rv_core.specs.Hart.{HartState, register, with_register, advanced}
 use Rattle.rv_core.specs.Memory.{Memory, IsStored, fetch_answer, load_answer, store_answer}
 use Rattle.rv_core.specs.declared.bus.Cause.{Cause}

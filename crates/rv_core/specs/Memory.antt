@@ -2,7 +2,8 @@
 use Rattle.std.specs.Prelude.{◌≡◌, ℕ, ◌%◌, ◌==◌, Bool, if◌then◌else◌, Result, Ok, Err}
 use Rattle.machine_words.specs.Number.{number_from, after_store}
 use Rattle.rv_core.specs.declared.bus.Cause.{Cause}
-use Rattle.rv_core.specs.declared.bus.Cause.TheVariants.{FetchOutside, LoadMisaligned, LoadOutside, StoreMisaligned, StoreOutside}
+use Rattle.rv_core.specs.declared.bus.Cause.TheVariants.{FetchOutside, LoadMisaligned, LoadOutside}
+use Rattle.rv_core.specs.declared.bus.Cause.TheVariants.{StoreMisaligned, StoreOutside}
 
 -- whether the n bytes from an address on may be fetched, loaded or stored
 pub record Memory : Type 0 where

@@ -1,12 +1,15 @@
 -- The operations that instructions ask for, each with what it does to a hart and to memory.
 use Rattle.std.specs.Prelude.{◌<◌}
 use Rattle.machine_words.specs.Number.{IsWidth}
-use Rattle.rv_core.specs.Execute.{Effect, Completes, Calls, Faults, writes, jumps, branches, loads_signed, loads_unsigned, stores}
+use Rattle.rv_core.specs.Execute.{Effect, Completes, Calls, Faults, writes, jumps, branches}
+use Rattle.rv_core.specs.Execute.{loads_signed, loads_unsigned, stores}
 use Rattle.rv_core.specs.Hart.{HartState, advanced}
 use Rattle.rv_core.specs.Memory.{Memory}
 use Rattle.rv_core.specs.declared.bus.Cause.TheVariants.{Breakpoint}
 use Rattle.rv_core.specs.declared.operation.Operation.{Operation}
-use Rattle.rv_core.specs.declared.operation.Operation.TheVariants.{Write, Jump, Branch, Load, LoadSigned, Store, Next, Call, Break}
+use Rattle.rv_core.specs.declared.operation.Operation.TheVariants.{Write, Jump, Branch, Load}
+use Rattle.rv_core.specs.declared.operation.Operation.TheVariants.{LoadSigned, Store, Next, Call}
+use Rattle.rv_core.specs.declared.operation.Operation.TheVariants.{Break}
 
 abbrev pub meaning : Operation → Memory → HartState → Effect
 meaning (Write rd value) m h = writes h rd value

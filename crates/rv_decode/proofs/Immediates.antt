@@ -1,5 +1,6 @@
 -- A signed number and the bits of its field: each is got back from the other.
-use Rattle.std.proofs.Common.{ℕ, ℤ, pos, negsuc, neg_ℤ, suc, ◌≡◌, ◌+◌, ◌-◌, ◌*◌, ◌/◌, ◌%◌, ◌^◌, ◌<◌, ◌≤◌, ◌≤ℤ◌, ◌<ℤ◌, ◌-ℤ◌, arith, ap, sym, subst, ◌∙◌, refl, ◌+ℤ◌, w32, of_z, to_z, FitsSigned, rules}
+use Rattle.std.proofs.Common.{ℕ, ℤ, pos, negsuc, neg_ℤ, suc, ◌≡◌, ◌+◌, ◌-◌, ◌*◌, ◌/◌, ◌%◌, ◌^◌, ◌<◌, ◌≤◌, ◌≤ℤ◌, ◌<ℤ◌, ◌-ℤ◌, arith, ap, sym, subst, ◌∙◌, refl}
+use Rattle.std.proofs.Common.{◌+ℤ◌, w32, of_z, to_z, FitsSigned, rules}
 use Rattle.std.specs.Prelude.{unsigned_abs, if◌then◌else◌, nat_lt}
 use Rattle.std.specs.Int.{int_rem_euclid}
 use Rattle.std.specs.Int.Signed.{shr_z}

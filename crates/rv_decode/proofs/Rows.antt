@@ -10,7 +10,9 @@ use Rattle.rv_decode.specs.Decode.{Row, r_type, i_type, s_type, b_type, u_type, 
 use Rattle.rv_decode.specs.Encode.{encoded, r_word, i_word, s_word, b_word, u_word, j_word}
 use Rattle.rv_decode.specs.WellFormed.{IsWellFormed, FitsR, FitsI, FitsS, FitsB, FitsU, FitsJ}
 use Rattle.rv_decode.specs.declared.Instr.{Instr}
-use Rattle.rv_decode.specs.declared.Instr.TheVariants.{Lui, Auipc, Jal, Jalr, Beq, Bne, Blt, Bge, Bltu, Bgeu, Lb, Lh, Lw, Lbu, Lhu, Sb, Sh, Sw, Addi, Slti, Sltiu, Xori, Ori, Andi, Slli, Srli, Srai, Add, Sub, Sll, Slt, Sltu, Xor, Srl, Sra, Or, And, Fence, Ecall, Ebreak, Mul, Mulh, Mulhsu, Mulhu, Div, Divu, Rem, Remu}
+use Rattle.rv_decode.specs.declared.Instr.TheVariants.{Lui, Auipc, Jal, Jalr, Beq, Bne, Blt, Bge, Bltu, Bgeu, Lb, Lh, Lw, Lbu, Lhu, Sb, Sh, Sw, Addi, Slti}
+use Rattle.rv_decode.specs.declared.Instr.TheVariants.{Sltiu, Xori, Ori, Andi, Slli, Srli, Srai, Add, Sub, Sll, Slt, Sltu, Xor, Srl, Sra, Or, And, Fence, Ecall}
+use Rattle.rv_decode.specs.declared.Instr.TheVariants.{Ebreak, Mul, Mulh, Mulhsu, Mulhu, Div, Divu, Rem, Remu}
 use Rattle.rv_decode.proofs.Formats.{r_fields, r_again, i_fields, i_again, s_fields, s_again, b_fields, b_again, u_fields, u_again, j_fields, j_again}
 use Rattle.rv_decode.proofs.Immediates.{i_formed, s_formed, b_formed, u_formed, j_formed}
 use Rattle.rv_decode.proofs.Table.{row_fits, row_decodes, decoded_row}

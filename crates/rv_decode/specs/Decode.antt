@@ -1,9 +1,15 @@
 -- The instruction table: one row an instruction, in the manual's order, and what a word decodes to.
 use Rattle.std.specs.Prelude.{ℕ, ℤ, ◌==◌, ◌&&◌, Bool, true, List, [], ◌∷◌, Option, find}
 use Rattle.std.specs.Option.{option_map}
-use Rattle.rv_decode.specs.Fields.{opcode, rd, funct3, rs1, rs2, funct7, amount, i_immediate, s_immediate, b_immediate, u_immediate, j_immediate}
+use Rattle.rv_decode.specs.Fields.{opcode, rd, funct3, rs1, rs2, funct7, amount, i_immediate}
+use Rattle.rv_decode.specs.Fields.{s_immediate, b_immediate, u_immediate, j_immediate}
 use Rattle.rv_decode.specs.declared.Instr.{Instr}
-use Rattle.rv_decode.specs.declared.Instr.TheVariants.{Lui, Auipc, Jal, Jalr, Beq, Bne, Blt, Bge, Bltu, Bgeu, Lb, Lh, Lw, Lbu, Lhu, Sb, Sh, Sw, Addi, Slti, Sltiu, Xori, Ori, Andi, Slli, Srli, Srai, Add, Sub, Sll, Slt, Sltu, Xor, Srl, Sra, Or, And, Fence, Ecall, Ebreak, Mul, Mulh, Mulhsu, Mulhu, Div, Divu, Rem, Remu}
+use Rattle.rv_decode.specs.declared.Instr.TheVariants.{Lui, Auipc, Jal, Jalr, Beq, Bne, Blt, Bge}
+use Rattle.rv_decode.specs.declared.Instr.TheVariants.{Bltu, Bgeu, Lb, Lh, Lw, Lbu, Lhu, Sb, Sh, Sw}
+use Rattle.rv_decode.specs.declared.Instr.TheVariants.{Addi, Slti, Sltiu, Xori, Ori, Andi, Slli}
+use Rattle.rv_decode.specs.declared.Instr.TheVariants.{Srli, Srai, Add, Sub, Sll, Slt, Sltu, Xor}
+use Rattle.rv_decode.specs.declared.Instr.TheVariants.{Srl, Sra, Or, And, Fence, Ecall, Ebreak, Mul}
+use Rattle.rv_decode.specs.declared.Instr.TheVariants.{Mulh, Mulhsu, Mulhu, Div, Divu, Rem, Remu}
 
 -- which words of its opcode a row takes: each, those with its function codes, or one word alone
 pub data Codes : Type 0 where

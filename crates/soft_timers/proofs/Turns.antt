@@ -1,12 +1,16 @@
 -- What ticks leave without a tick left, and that it is gone after the turns of what was due.
-use Rattle.std.proofs.Common.{◌≡◌, ◌≢◌, ℕ, suc, ◌+◌, ◌<◌, ◌==◌, Bool, true, false, not, ◌&&◌, ◌||◌, nat_lt, List, [], ◌∷◌, ◌++◌, find, filter, cond, All, AllPairs, Option, None, Some, ⊎_elim, refl, ap, sym, subst, ◌∙◌, arith}
-use Rattle.std.proofs.lemmas.Bool.{eqb-true, eq-eqb, ne_eqb, lt-ltb, ltb-true, cond_both, cond-true, cond-false, cases_Bool, cases_eq, or_cases, or_left, or_right, and_parts, and_from, both_ways}
+use Rattle.std.proofs.Common.{◌≡◌, ◌≢◌, ℕ, suc, ◌+◌, ◌<◌, ◌==◌, Bool, true, false, not, ◌&&◌, ◌||◌, nat_lt, List, [], ◌∷◌, ◌++◌, find, filter, cond, All}
+use Rattle.std.proofs.Common.{AllPairs, Option, None, Some, ⊎_elim, refl, ap, sym, subst, ◌∙◌, arith}
+use Rattle.std.proofs.lemmas.Bool.{eqb-true, eq-eqb, ne_eqb, lt-ltb, ltb-true, cond_both, cond-true, cond-false, cases_Bool, cases_eq, or_cases, or_left}
+use Rattle.std.proofs.lemmas.Bool.{or_right, and_parts, and_from, both_ways}
 use Rattle.std.proofs.lemmas.List.Elements.{All-push, All-filter, All-weaker, All-head, All-tail, All-nil, All-cons}
 use Rattle.std.proofs.lemmas.List.Folds.{find-append}
 use Rattle.std.proofs.lemmas.List.Kept.{AllPairs-filter}
 use Rattle.std.specs.List.{slice_index_or}
 use Rattle.std.specs.Option.{option_map, option_map_or, option_or, IsSome}
-use Rattle.soft_timers.specs.Laws.{Call, Arm, Disarm, called, all_called, MayCallAll, CallsKeepTheWheel, TicksKeepTheWheel, CallsSpareOthers, ArmedIsThere, DisarmedIsNone, CallsKeepRunning, DueAreInOrder, DueAreArmed, DisarmedIsOver, OverStaysOver, is_among, IsRunningBut, TicksLeaveTheDue, CallsAddNone, TurnsTakeOne, NoneIsRunning, RunsAfterTheTurns}
+use Rattle.soft_timers.specs.Laws.{Call, Arm, Disarm, called, all_called, MayCallAll, CallsKeepTheWheel, TicksKeepTheWheel, CallsSpareOthers, ArmedIsThere}
+use Rattle.soft_timers.specs.Laws.{DisarmedIsNone, CallsKeepRunning, DueAreInOrder, DueAreArmed, DisarmedIsOver, OverStaysOver, is_among, IsRunningBut}
+use Rattle.soft_timers.specs.Laws.{TicksLeaveTheDue, CallsAddNone, TurnsTakeOne, NoneIsRunning, RunsAfterTheTurns}
 use Rattle.soft_timers.specs.Timers.{TimerTable, IsWheel, IsRunning, armed, armed_for, disarmed, ticked, due_now, still}
 use Rattle.soft_timers.specs.declared.due.Armed.{Armed}
 use Rattle.soft_timers.proofs.Kept.{armed_keeps, disarmed_keeps, ticked_keeps}

@@ -1,8 +1,10 @@
 -- What holds over all calls of a wheel.
-use Rattle.std.specs.Prelude.{ℕ, ◌≡◌, ◌≢◌, ◌^◌, ◌<◌, ◌==◌, ◌&&◌, ◌||◌, nat_lt, Bool, true, false, List, [], ◌∷◌, All, AllPairs, IsSome, None, ⊤}
+use Rattle.std.specs.Prelude.{ℕ, ◌≡◌, ◌≢◌, ◌^◌, ◌<◌, ◌==◌, ◌&&◌, ◌||◌, nat_lt, Bool, true, false}
+use Rattle.std.specs.Prelude.{List, [], ◌∷◌, All, AllPairs, IsSome, None, ⊤}
 use Rattle.std.specs.List.{list_any}
 use Rattle.tx_types.specs.Limits.{timer_limit}
-use Rattle.soft_timers.specs.Timers.{TimerTable, IsWheel, IsRunning, armed, armed_for, disarmed, ticked, due_now, still}
+use Rattle.soft_timers.specs.Timers.{TimerTable, IsWheel, IsRunning, armed, armed_for, disarmed}
+use Rattle.soft_timers.specs.Timers.{ticked, due_now, still}
 use Rattle.soft_timers.specs.declared.due.Armed.{Armed}
 
 -- the calls that change what is armed between two ticks

@@ -1,5 +1,6 @@
 -- Which timeouts and timers are armed, by ticks since the start, and which are due.
-use Rattle.std.specs.Prelude.{ℕ, ◌≢◌, ◌+◌, ◌-◌, ◌^◌, ◌<◌, ◌≤◌, ◌==◌, Bool, false, not, List, [], ◌∷◌, ◌++◌, All, AllPairs, filter, find, Option}
+use Rattle.std.specs.Prelude.{ℕ, ◌≢◌, ◌+◌, ◌-◌, ◌^◌, ◌<◌, ◌≤◌, ◌==◌, Bool, false, not, List, []}
+use Rattle.std.specs.Prelude.{◌∷◌, ◌++◌, All, AllPairs, filter, find, Option}
 use Rattle.std.specs.Option.{option_map, option_map_or}
 use Rattle.tx_types.specs.Limits.{timer_limit}
 use Rattle.soft_timers.specs.declared.due.Armed.{Armed}

@@ -1,11 +1,13 @@
--- A call of the program: which top call answers the words, what it promises, and the status that the
--- process ended with.
-use Rattle.std.specs.Prelude.{ℕ, Bool, false, List, [], ◌∷◌, IfSome, MatchBool, codes, slice_index_or}
+-- A call of the program: which top call answers the words, what it promises, and the status that
+-- the process ended with.
+use Rattle.std.specs.Prelude.{ℕ, Bool, false, List, [], ◌∷◌, IfSome, MatchBool, codes}
+use Rattle.std.specs.Prelude.{slice_index_or}
 use Rattle.std.specs.Process.{exit_status}
 use Rattle.std.specs.Str.{bytes_eq}
 use Rattle.std.specs.declared.process.ExitCode.{ExitCode}
 use Rattle.board_io.specs.declared.status.Status.{Status}
-use Rattle.board_io.specs.declared.status.Status.TheVariants.{Done, Usage, ReadFault, Refused, WriteFault, NoMemory}
+use Rattle.board_io.specs.declared.status.Status.TheVariants.{Done, Usage, ReadFault, Refused}
+use Rattle.board_io.specs.declared.status.Status.TheVariants.{WriteFault, NoMemory}
 use Rattle.board_live.specs.Live.{LiveAlways, LiveAnswers, LiveCompletes, live_due, live_row_of}
 use Rattle.board_run.specs.Answer.{Always, Answers, Completes}
 use Rattle.board_run.specs.Call.{Call, Ended}

@@ -105,7 +105,7 @@ fn stand(w: &Waits, at: &At, order: &[u16]) -> bool {
             _ => return false,
         }
     }
-    next.is_none()
+    next.is_none() && usize::from(w.len(on(at))) == order.len()
 }
 
 /// Makes the steps of a history. The answer is the place of the first that comes out otherwise.
@@ -181,6 +181,9 @@ fn a_table_is_set_up_and_goes_on(rt: HostRuntime) -> Result<(), Fail> {
     w.restore(ThreadNo::new(3), wait(&At::Object), WaitNo::new(4));
     w.restore(ThreadNo::new(1), wait(&At::Object), WaitNo::new(2));
     assert_eq!(rt; differs_at(&mut w, AFTER_IT_WAS_SET_UP), None);
+    let left = w.waiters(rt.alloc(), on(&At::Object));
+    let left = left.map_err(|_| "no memory")?;
+    assert_eq!(rt; left.as_slice(), [thread(1), thread(0)].as_slice());
     assert_eq!(rt; w.number(thread(1)), Some(WaitNo::new(2)));
     assert_eq!(rt; (w.totals().begun, w.totals().satisfied), (6, 2));
     Ok(())

@@ -20,7 +20,8 @@ returns-in_err-start c =
 pub returns-in_err-nothing_else : goal.returns-in_err-nothing_else
 unfolding module_of
 returns-in_err-nothing_else c =
-    rw (c.in_ok-name.ensures, c.in_ok-image.ensures, c.in_ok-start.ensures) (exits (λ x. x) _ _ _ _ c.from_residual-in_err-nothing_else.ensures.1 c.in_err-nothing_else.ensures)
+    rw (c.in_ok-name.ensures, c.in_ok-image.ensures, c.in_ok-start.ensures)
+    (exits (λ x. x) _ _ _ _ c.from_residual-in_err-nothing_else.ensures.1 c.in_err-nothing_else.ensures)
 
 pub returns : goal.returns
 unfolding module_of

@@ -21,7 +21,8 @@ returns-in_err-words c =
 pub returns-in_err-nothing_else : goal.returns-in_err-nothing_else
 unfolding show_of
 returns-in_err-nothing_else c =
-    rw (c.in_ok-module.ensures, c.in_ok-offset.ensures, c.in_ok-words.ensures) (exits (λ x. x) _ _ _ _ c.from_residual-in_err-nothing_else.ensures.1 c.in_err-nothing_else.ensures)
+    rw (c.in_ok-module.ensures, c.in_ok-offset.ensures, c.in_ok-words.ensures)
+    (exits (λ x. x) _ _ _ _ c.from_residual-in_err-nothing_else.ensures.1 c.in_err-nothing_else.ensures)
 
 pub returns : goal.returns
 unfolding show_of

@@ -22,4 +22,5 @@ returns-clause-wrote g c =
     let last = subst (λ (es : List Entry). es ≡ closed es ++ e ∷ []) c.history.ensures.history c.in-Some.ensures in
     let line = c.as_bytes.ensures.value ∙ c.as_str.ensures.value ∙ c.entry_line.ensures.bytes ∙ ap (λ b. b ++ line_of e) c.new-line.ensures in
     let text = line ∙ sym (one_open c.an_interrupt_closes_an_entry.ensures.whole c.args.machine.now.history e last) in
-    subst (λ t. Wrote (faults c.args.sink.now) (faults c.write.new.self) (told c.args.sink.now) (told c.write.new.self) t c.write.result) text c.write.ensures.wrote
+    subst (λ t. Wrote (faults c.args.sink.now) (faults c.write.new.self) (told c.args.sink.now) (told c.write.new.self) t c.write.result) text
+    c.write.ensures.wrote

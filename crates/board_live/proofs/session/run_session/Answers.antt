@@ -39,6 +39,8 @@ returns-in-Done-clause-ran g c =
     let was = c.args.sink.now in
     let mid = c.serve-served.new in
     let now = c.finish.new.sink in
-    let ran = finished_run g.O.Session.origin c.into_inner-core.result.machine.history mid.get.entries (faults was) (faults mid.sink) (faults now) (told was) (told mid.sink) (told now) c.finish.result
+    let ran =
+    finished_run g.O.Session.origin c.into_inner-core.result.machine.history mid.get.entries (faults was) (faults mid.sink) (faults now) (told was)
+    (told mid.sink) (told now) c.finish.result
     c.serve-served.ensures.faults text c.finish.ensures.finished in
     subst (λ r. HasRun g.O.Session.origin (Rose (faults was) (faults now)) (told was) (told now) r) (sym c.end_finished.ensures) ran

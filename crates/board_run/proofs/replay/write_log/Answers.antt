@@ -18,7 +18,9 @@ returns-in_err-write-clause-wrote g c =
     let faults = g.S.Sink.faults in
     let told = g.S.Sink.written in
     let p = err_from_is_err_and c.from_residual.result c.from_residual.ensures.1 in
-    wrote_front (faults c.args.sink.now) (faults at.sink) (faults c.write.new.self) (told c.args.sink.now) (told at.sink) (told c.write.new.self) front c.as_bytes.result.now rest (text_of entries) c.from_residual.result at.invariant.counted (rw p.1 refl) (ap (λ text. front ++ text) (sym first) ∙ same) written (rw p.1 c.in_err-write.ensures.wrote)
+    wrote_front (faults c.args.sink.now) (faults at.sink) (faults c.write.new.self) (told c.args.sink.now) (told at.sink)
+    (told c.write.new.self) front c.as_bytes.result.now rest (text_of entries) c.from_residual.result at.invariant.counted (rw p.1 refl)
+    (ap (λ text. front ++ text) (sym first) ∙ same) written (rw p.1 c.in_err-write.ensures.wrote)
 
 pub loop-i-preserved : goal.loop-i-preserved
 loop-i-preserved g c =
@@ -31,5 +33,9 @@ loop-i-preserved g c =
     let rest = text_of (drop (at.i + 1) entries) in
     record {
       counted = omega (arith, at.invariant.counted, c.in_ok-write.ensures.counted);
-      wrote = (front ++ c.as_bytes.result.now, append_assoc front c.as_bytes.result.now rest ∙ ap (λ text. front ++ text) (sym first) ∙ same, Appends-trans _ (g.S.Sink.written at.sink) _ front c.as_bytes.result.now written c.in_ok-write.ensures.wrote);
+      wrote = (
+        front ++ c.as_bytes.result.now,
+        append_assoc front c.as_bytes.result.now rest ∙ ap (λ text. front ++ text) (sym first) ∙ same,
+        Appends-trans _ (g.S.Sink.written at.sink) _ front c.as_bytes.result.now written c.in_ok-write.ensures.wrote,
+      );
     }

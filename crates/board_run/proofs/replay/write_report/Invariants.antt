@@ -9,5 +9,6 @@ use Rattle.board_run.proofs.replay.write_report.Given as goal
 abbrev pub invariant-loop-i : goal.invariant-loop-i
 invariant-loop-i g l = record {
   counted : g.S.Sink.faults l.fn.sink ≤ g.S.Sink.faults l.sink;
-  wrote : (front : List ℕ) × (front ++ flat_map (λ line. line) (drop l.i (report_lines l.report)) ≡ report_text l.report) × Appends (g.S.Sink.written l.fn.sink) (g.S.Sink.written l.sink) front;
+  wrote : (front : List ℕ) × (front ++ flat_map (λ line. line) (drop l.i (report_lines l.report)) ≡ report_text l.report)
+      × Appends (g.S.Sink.written l.fn.sink) (g.S.Sink.written l.sink) front;
 }

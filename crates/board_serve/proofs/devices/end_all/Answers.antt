@@ -23,7 +23,9 @@ loop-device-preserved g c =
       c.push_reserved.ensures.capacity ∙ capacity,
       λ inbox devices run.
           let here = subst (λ n. IsRunning inbox n (script_of devices n) v) (sym len) (device_next inbox devices _ before _ v run all) in
-          rw c.push_reserved.ensures.items (one_more (IsBack inbox devices) passes p (back inbox devices run) (c.end_one.ensures inbox (length passes) (script_of devices (length passes)) here)),
+          rw c.push_reserved.ensures.items
+          (one_more (IsBack inbox devices) passes p (back inbox devices run)
+          (c.end_one.ensures inbox (length passes) (script_of devices (length passes)) here)),
     )
 
 pub returns : goal.returns

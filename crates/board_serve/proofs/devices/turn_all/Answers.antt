@@ -14,9 +14,11 @@ loop-at-preserved g c =
     let devices = c.args.devices.now in
     let was = c.index_mut.result.now in
     let new = c.turn_one.new.device in
-    let script : c.items.result.now ≡ script_of devices at = c.items.ensures ∙ script_here devices at at c.index-devices-at.result refl (omega (arith, c.loop-at-test.true)) in
+    let script : c.items.result.now ≡ script_of devices at =
+    c.items.ensures ∙ script_here devices at at c.index-devices-at.result refl (omega (arith, c.loop-at-test.true)) in
     let before : IsRunning inbox at (script_of devices at) was = search rules in
     let here = c.turn_one.ensures at (running_as was inbox inbox at at _ _ refl refl (sym script) before) in (
       length-set c.loop-at.working.items at new ∙ running.0,
-      one_set (λ d v. IsRunning inbox d (script_of devices d) v) c.loop-at.working.items at new running.1 (running_as new inbox inbox at at _ _ refl refl script here),
+      one_set (λ d v. IsRunning inbox d (script_of devices d) v) c.loop-at.working.items at new running.1
+          (running_as new inbox inbox at at _ _ refl refl script here),
     )

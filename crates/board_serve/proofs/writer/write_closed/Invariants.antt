@@ -11,5 +11,6 @@ invariant-loop g l = record {
   length : length l.counts ≡ length l.fn.counts;
   counted : Counted l.fn.counts l.fn.get.entries → Counted l.counts l.get.entries;
   faults : g.S.Sink.faults l.fn.sink ≤ g.S.Sink.faults l.sink;
-  wrote : (start : Option (List ℕ)) → Appends start (g.S.Sink.written l.fn.sink) (text_of l.fn.get.entries) → Appends start (g.S.Sink.written l.sink) (text_of l.get.entries);
+  wrote : (start : Option (List ℕ)) → Appends start (g.S.Sink.written l.fn.sink) (text_of l.fn.get.entries)
+      → Appends start (g.S.Sink.written l.sink) (text_of l.get.entries);
 }

@@ -10,4 +10,8 @@ returns-in_err-write_entry-clause-wrote g c first start le so_far =
     let told = g.S.Sink.written in
     let p = err_from_is_err_and c.from_residual.result c.from_residual.ensures.1 in
     let more = ap (λ (v : GetSeen). v.entries) c.in-Some.ensures.some in
-    rw (p.1, more) (line_failed first (faults c.args.sink.now) (faults c.write_entry.new.sink) start (told c.args.sink.now) (told c.write_entry.new.sink) c.args.get.now.entries c.in-Some.e le so_far c.in_err-write_entry.ensures.wrote)
+    rw (
+      p.1,
+      more,
+    ) (line_failed first (faults c.args.sink.now) (faults c.write_entry.new.sink) start (told c.args.sink.now)
+    (told c.write_entry.new.sink) c.args.get.now.entries c.in-Some.e le so_far c.in_err-write_entry.ensures.wrote)

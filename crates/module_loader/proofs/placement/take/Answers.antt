@@ -26,9 +26,12 @@ returns-clause-taken c =
     let removed = c.remove-r.ensures.items in
     let base = c.place-base.result in
     let r = c.remove-r.result in
-    let first : c.put_piece.new.free.items ≡ take c.in-Some.i c.remove-r.new.self.items ++ (piece (base + c.args.size) (r.base + r.size) ++ drop c.in-Some.i c.remove-r.new.self.items) = c.in_ok-put_piece.ensures {u = tt} in
-    let second : c.put_piece-2.new.free.items ≡ take c.in-Some.i c.put_piece.new.free.items ++ (piece r.base base ++ drop c.in-Some.i c.put_piece.new.free.items) = c.in_ok-put_piece-2.ensures {u = tt} in
-    taken_at c.args.size c.args.free.now.items c.in-Some.i r base c.put_piece.new.free.items c.put_piece-2.new.free.items found c.remove-r.ensures.value c.place-base.ensures.value (rw (← removed) first) second
+    let first : c.put_piece.new.free.items ≡ take c.in-Some.i c.remove-r.new.self.items
+    ++ (piece (base + c.args.size) (r.base + r.size) ++ drop c.in-Some.i c.remove-r.new.self.items) = c.in_ok-put_piece.ensures {u = tt} in
+    let second : c.put_piece-2.new.free.items ≡ take c.in-Some.i c.put_piece.new.free.items
+    ++ (piece r.base base ++ drop c.in-Some.i c.put_piece.new.free.items) = c.in_ok-put_piece-2.ensures {u = tt} in
+    taken_at c.args.size c.args.free.now.items c.in-Some.i r base c.put_piece.new.free.items c.put_piece-2.new.free.items found c.remove-r.ensures.value
+    c.place-base.ensures.value (rw (← removed) first) second
 
 pub returns-clause-addressable : goal.returns-clause-addressable
 returns-clause-addressable c =

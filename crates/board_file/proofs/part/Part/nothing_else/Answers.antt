@@ -25,5 +25,6 @@ returns-then-not-is_among c =
     let iter : c.loop-key.key-iterator ≡ e ∷ c.next.new.self = grind (arith, common_steps) in
     let other : list_any (λ k. bytes_eq (string_bytes e.0) k.now) c.args.known.now ≡ false = grind (arith, common_steps) in
     let path = c.args.self.now.path.now in
-    let due : no_key_but (map (λ k. k.now) c.args.known.now) path (members_view c.loop-key.key-iterator) ≡ Err (key_path path (string_bytes e.0)) = rw iter (other_key c.args.known.now path e c.next.new.self other) in
+    let due : no_key_but (map (λ k. k.now) c.args.known.now) path (members_view c.loop-key.key-iterator) ≡ Err (key_path path (string_bytes e.0)) =
+    rw iter (other_key c.args.known.now path e c.next.new.self other) in
     reads_wrong (λ x. x) _ (key_path path (string_bytes e.0)) _ (same ∙ due) (grind (arith, common_steps))

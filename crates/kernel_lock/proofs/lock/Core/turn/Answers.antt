@@ -4,7 +4,8 @@ use Rattle.kernel_lock.proofs.lock.Core.turn.Goals as goal
 pub record_irq-requires-clause-fits : goal.record_irq-requires-clause-fits
 record_irq-requires-clause-fits g c =
     let closes = c.an_interrupt_closes_an_entry.ensures in
-    (lane_fits (record { few = closes.few; whole = closes.whole; tested = c.a_history_stays_one.ensures.tested }) _ _ _ _ _ _ _ _ c.args.self.now.holds c.requires.room).0
+    (lane_fits (record { few = closes.few; whole = closes.whole; tested = c.a_history_stays_one.ensures.tested }) _ _ _ _ _ _ _ _
+    c.args.self.now.holds c.requires.room).0
 
 pub invariant_of-self : goal.invariant_of-self
 invariant_of-self g c =
@@ -17,7 +18,11 @@ invariant_of-self g c =
     } in
     let took = c.in-Some.ensures in
     let more : GotMore _ _ _ _ = record { got = took.some.0; inbox = took.same.0; devices = took.same.1; gathered = took.same.2 } in
-    record { holds = take_keeps laws _ _ _ _ _ _ _ _ _ _ _ _ _ c.args.self.now.holds more took.some.1 took.fits c.requires.room c.record_irq.ensures.machine c.record_irq.ensures.put }
+    record {
+      holds =
+          take_keeps laws _ _ _ _ _ _ _ _ _ _ _ _ _ c.args.self.now.holds more took.some.1 took.fits c.requires.room c.record_irq.ensures.machine
+          c.record_irq.ensures.put;
+    }
 
 pub invariant_of-self-in-None : goal.invariant_of-self-in-None
 invariant_of-self-in-None g c =

@@ -1,7 +1,8 @@
 use Rattle.std.proofs.Common.{◌≡◌, true, false, sym, ◌∙◌, arith}
 use Rattle.ready_maps.specs.Sched.{runs, is_ready}
 use Rattle.ready_maps.proofs.ListFacts.{without_is_not}
-use Rattle.ready_maps.proofs.Facts.{renumbered_laid, renumbered_keeps, renumbered_unready, priority_runner_keeps, priority_ready_keeps, priority_other_keeps, priority_runner_is, priority_ready_is}
+use Rattle.ready_maps.proofs.Facts.{renumbered_laid, renumbered_keeps, renumbered_unready, priority_runner_keeps, priority_ready_keeps, priority_other_keeps}
+use Rattle.ready_maps.proofs.Facts.{priority_runner_is, priority_ready_is}
 use Rattle.ready_maps.proofs.ready.Ready.set_priority.Goals as goal
 
 pub place_again-requires-clause-laid_out : goal.place_again-requires-clause-laid_out
