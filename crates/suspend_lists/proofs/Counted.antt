@@ -7,7 +7,8 @@ use Rattle.tx_types.specs.End.{WaitEnd}
 use Rattle.tx_types.specs.declared.waits.End.{End}
 use Rattle.tx_types.specs.declared.waits.End.TheVariants.{Satisfied, TimedOut, Aborted, Deleted, Gone}
 use Rattle.tx_types.specs.declared.waits.Totals.{Totals}
-use Rattle.suspend_lists.specs.Laws.{Call, Begin, Finish, ToFront, called, all_called, MayCallAll, over_by, all_over, end_number, ended_so, IsCounted, CallsCount, HistoriesCount}
+use Rattle.suspend_lists.specs.Laws.{Call, Begin, Finish, ToFront, called, all_called, MayCallAll, over_by, all_over, end_number, ended_so, IsCounted}
+use Rattle.suspend_lists.specs.Laws.{CallsCount, HistoriesCount}
 use Rattle.suspend_lists.specs.Waits.{WaitTable, new_table, pending, begun, counted}
 use Rattle.suspend_lists.specs.declared.wait.Pending.{Pending}
 

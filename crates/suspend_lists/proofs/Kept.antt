@@ -1,20 +1,23 @@
 -- What holds of every table is kept by each call.
-use Rattle.std.proofs.Common.{◌≡◌, ◌≢◌, ℕ, ◌+◌, ◌<◌, ◌≤◌, ◌==◌, Bool, true, false, not, ◌&&◌, ◌||◌, List, [], ◌∷◌, ◌++◌, length, length-set, replicate, cond, ⊎_elim, slice_set, Option, None, Some, refl, ap, sym, subst, ◌∙◌, arith}
-use Rattle.std.proofs.lemmas.Bool.{eqb-true, eq-eqb, ne_eqb, cond_both, cond-true, cond-false, cases_eq, cases_lt, cases_Bool}
+use Rattle.std.proofs.Common.{◌≡◌, ℕ, ◌+◌, ◌<◌, ◌≤◌, ◌==◌, Bool, true, false, List, [], ◌∷◌, ◌++◌, length, length-set, replicate, cond, ⊎_elim, slice_set}
+use Rattle.std.proofs.Common.{Option, None, Some, refl, ap, sym, subst, ◌∙◌, arith}
+use Rattle.std.proofs.lemmas.Bool.{eqb-true, eq-eqb, ne_eqb, cond_both, cond-true, cond-false, cases_eq, cases_lt}
 use Rattle.std.proofs.lemmas.Bool.Decides.{nat_tests}
 use Rattle.std.proofs.lemmas.List.{get_or-set_same, get_or-set_other, get_or_past, get_or-replicate, length-replicate}
 use Rattle.std.proofs.lemmas.List.Folds.{sum_by-replicate}
 use Rattle.std.proofs.lemmas.List.Sums.{sum_by-set, get_or-le-sum_by}
+use Rattle.std.proofs.lemmas.Map.Steps.{length-le_from_distinct_below}
 use Rattle.std.proofs.lemmas.Option.{same_Some, none-some}
 use Rattle.std.specs.Bool.{nat_eq}
-use Rattle.std.specs.List.{IsDistinct, slice_index_or, count_by, sum_by}
+use Rattle.std.specs.List.{IsDistinct, slice_index_or}
 use Rattle.std.specs.Option.{option_map_or, option_map, option_and_then, is_some, IfSome, IsSome}
 use Rattle.tx_types.specs.declared.waits.End.{End}
 use Rattle.tx_types.specs.declared.waits.End.TheVariants.{Satisfied, TimedOut, Aborted, Deleted, Gone}
 use Rattle.tx_types.specs.declared.waits.Totals.{Totals}
 use Rattle.suspend_lists.specs.ThreadList.{has, without}
 use Rattle.suspend_lists.specs.Wait.{place, place_count}
-use Rattle.suspend_lists.specs.Waits.{WaitTable, IsTable, new_table, waiters, waiters_in, with_waiters, joined, left, put_ahead, pending, number_of, place_of, waits_at, restored, ended, put_first, counted, pending_count, ended_count, IsFreeNumber}
+use Rattle.suspend_lists.specs.Waits.{WaitTable, IsTable, new_table, waiters, waiters_in, with_waiters, pending, place_of, waits_at, restored, ended, put_first}
+use Rattle.suspend_lists.specs.Waits.{counted, pending_count, ended_count, IsFreeNumber}
 use Rattle.suspend_lists.specs.declared.wait.Pending.{Pending}
 use Rattle.suspend_lists.specs.declared.wait.Wait.{Wait}
 use Rattle.suspend_lists.proofs.Lists.{has-without, has-push, distinct-without, distinct-push, distinct-first, not_has-without, room}
@@ -59,10 +62,10 @@ distinct_at lists (Some p) each = each p
 
 -- the wait of one thread
 
-pending_same : (waits : List (Option Pending)) (t u : ℕ) (o : Option Pending) → t < length waits → t ≡ u → slice_index_or (slice_set waits t o) u None ≡ o
+pub pending_same : (waits : List (Option Pending)) (t u : ℕ) (o : Option Pending) → t < length waits → t ≡ u → slice_index_or (slice_set waits t o) u None ≡ o
 pending_same waits t u o inside same = subst (λ (v : ℕ). slice_index_or (slice_set waits t o) v None ≡ o) same (get_or-set_same waits t o None inside)
 
-pending_other : (waits : List (Option Pending)) (t u : ℕ) (o : Option Pending) → (t ≡ u → ⊥)
+pub pending_other : (waits : List (Option Pending)) (t u : ℕ) (o : Option Pending) → (t ≡ u → ⊥)
     → slice_index_or (slice_set waits t o) u None ≡ slice_index_or waits u None
 pending_other waits t u o other = get_or-set_other waits t u o None (λ back. other (sym back))
 
@@ -116,7 +119,12 @@ waits_within w (Some p) u table there =
       is_some_at None p at = absurd (cc)
       is_some_at (Some x) p at = refl
 
--- so there is room for one more
+-- so no list has more than that
+pub few_at : (w : WaitTable) (o : Option ℕ) → IsTable w → length (waiters_in w.lists o) ≤ 256
+few_at w o table =
+    length-le_from_distinct_below (waiters_in w.lists o) 256 (distinct_at w.lists o table.each_once) (λ u there. waits_within w o u table there)
+
+-- and there is room for one more
 pub room_at : (w : WaitTable) (t : ℕ) (o : Option ℕ) → IsTable w → t < 256 → pending w t ≡ None → length (waiters_in w.lists o) < 256
 room_at w t o table low none =
     room t (waiters_in w.lists o) low (distinct_at w.lists o table.each_once) (stands_nowhere w t o table none) (λ u there. waits_within w o u table there)

@@ -1,3 +1,4 @@
+pub mod AtAPlace
 pub mod Counted
 pub mod Kept
 pub mod Lists

@@ -1,19 +1,22 @@
 -- The laws over all calls, from what each call keeps.
-use Rattle.std.proofs.Common.{◌≡◌, ℕ, ◌+◌, ◌<◌, ◌==◌, Bool, true, false, nat_lt, List, [], ◌∷◌, ◌++◌, length, replicate, cond, slice_set, Option, None, Some, option_to_list, ⊎_elim, refl, ap, sym, subst, ◌∙◌, append_assoc, arith}
-use Rattle.std.proofs.lemmas.Bool.{eqb-true, eq-eqb, ne_eqb, lt-ltb, le-ltb, cases_eq, cases_lt}
+use Rattle.std.proofs.Common.{◌≡◌, ℕ, ◌+◌, ◌<◌, ◌==◌, Bool, false, nat_lt, List, [], ◌∷◌, ◌++◌, length, cond, Option, None, Some, option_to_list, refl, ap, sym}
+use Rattle.std.proofs.Common.{subst, ◌∙◌, append_assoc, arith}
+use Rattle.std.proofs.lemmas.Bool.{le-ltb}
 use Rattle.std.proofs.lemmas.Bool.Decides.{nat_tests}
 use Rattle.std.proofs.lemmas.List.{append-nil}
 use Rattle.std.proofs.lemmas.List.Folds.{sum_by-replicate}
 use Rattle.std.proofs.lemmas.List.Sums.{sum_by-set, sum_by-append}
-use Rattle.std.specs.List.{slice_index_or, count_by, sum_by}
 use Rattle.std.specs.Option.{IsSome, option_map}
 use Rattle.tx_types.specs.End.{WaitEnd}
 use Rattle.tx_types.specs.declared.waits.End.{End}
-use Rattle.suspend_lists.specs.Laws.{Call, Begin, Finish, ToFront, called, MayCall, all_called, MayCallAll, over_by, all_over, CallsKeepTheTable, TotalsKeepTheTable, RestoresKeepTheTable, AtOnePlace, OnceThere, ElseNowhere, IsWhole, CallsKeepItWhole, times, has_number, pending_times, IsAccounted, CallsAccount, HistoriesAccount, NextNumberIsNew}
-use Rattle.suspend_lists.specs.Waits.{WaitTable, IsTable, new_table, pending, number_of, waits_at, begun, ended, pending_count, ended_count, counted}
+use Rattle.suspend_lists.specs.Laws.{Call, Begin, Finish, ToFront, called, all_called, MayCallAll, over_by, all_over, CallsKeepTheTable, TotalsKeepTheTable}
+use Rattle.suspend_lists.specs.Laws.{RestoresKeepTheTable, AtOnePlace, OnceThere, ElseNowhere, IsWhole, CallsKeepItWhole, times, has_number, pending_times}
+use Rattle.suspend_lists.specs.Laws.{IsAccounted, CallsAccount, HistoriesAccount, NextNumberIsNew}
+use Rattle.suspend_lists.specs.Waits.{WaitTable, IsTable, new_table, pending, begun, ended, pending_count}
 use Rattle.suspend_lists.specs.declared.wait.Pending.{Pending}
 use Rattle.suspend_lists.specs.declared.wait.Wait.{Wait}
-use Rattle.suspend_lists.proofs.Kept.{is_at, at_Some, some_within, weight, weight_some, ended_more, begun_stays, restored_keeps, ended_keeps, put_first_keeps, begins_keeps, next_is_free, new_is_table}
+use Rattle.suspend_lists.proofs.Kept.{is_at, at_Some, some_within, weight, weight_some, ended_more, begun_stays, restored_keeps, ended_keeps, put_first_keeps}
+use Rattle.suspend_lists.proofs.Kept.{begins_keeps, next_is_free, new_is_table}
 
 -- what each call keeps
 

@@ -1,15 +1,20 @@
 -- What holds over all calls of a table of waits.
-use Rattle.std.specs.Prelude.{ℕ, ◌≡◌, ◌≢◌, ◌+◌, ◌<◌, ◌≤◌, ◌==◌, nat_eq, nat_lt, Bool, true, false, List, [], ◌∷◌, ◌++◌, count_by, Option, None, Some, IfSome, IsSome, if◌then◌else◌, option_to_list, ⊤}
+use Rattle.std.specs.Prelude.{ℕ, ◌≡◌, ◌≢◌, ◌↔◌, ◌+◌, ◌<◌, ◌≤◌, ◌==◌, nat_eq, nat_lt, Bool, true}
+use Rattle.std.specs.Prelude.{false, List, [], ◌∷◌, ◌++◌, count_by, Option, None, Some, IfSome}
+use Rattle.std.specs.Prelude.{IsSome, if◌then◌else◌, option_to_list, ⊤}
 use Rattle.std.specs.List.{IsDistinct}
 use Rattle.std.specs.Option.{option_map, option_map_or}
 use Rattle.tx_types.specs.Limits.{slot_limit}
 use Rattle.tx_types.specs.End.{WaitEnd}
 use Rattle.tx_types.specs.declared.waits.End.{End}
-use Rattle.tx_types.specs.declared.waits.End.TheVariants.{Satisfied, TimedOut, Aborted, Deleted, Gone}
+use Rattle.tx_types.specs.declared.waits.End.TheVariants.{Satisfied, TimedOut, Aborted, Deleted}
+use Rattle.tx_types.specs.declared.waits.End.TheVariants.{Gone}
 use Rattle.tx_types.specs.declared.waits.Totals.{Totals}
-use Rattle.suspend_lists.specs.ThreadList.{has}
+use Rattle.suspend_lists.specs.ThreadList.{has, without}
 use Rattle.suspend_lists.specs.Wait.{place, place_count}
-use Rattle.suspend_lists.specs.Waits.{WaitTable, IsTable, IsFreeNumber, new_table, waiters, pending, number_of, place_of, restored, begun, ended, put_first, pending_count, ended_count}
+use Rattle.suspend_lists.specs.Waits.{WaitTable, IsTable, IsFreeNumber, new_table, waiters, pending}
+use Rattle.suspend_lists.specs.Waits.{wait_of, number_of, place_of, restored, begun, ended}
+use Rattle.suspend_lists.specs.Waits.{put_first, pending_count, ended_count}
 use Rattle.suspend_lists.specs.declared.wait.Pending.{Pending}
 use Rattle.suspend_lists.specs.declared.wait.Wait.{Wait}
 
@@ -79,6 +84,50 @@ OnceThere = (w : WaitTable) (p : ℕ) → IsTable w → IsDistinct nat_eq (waite
 abbrev pub ElseNowhere : Type 0
 ElseNowhere =
     (w : WaitTable) (p t : ℕ) → IsTable w → place_of w t ≡ None → has t (waiters w (Some p)) ≡ false
+
+-- a thread stands in the list of a place where it waits there, and nowhere else
+abbrev pub StandsWhereItWaits : Type 0
+StandsWhereItWaits =
+    (w : WaitTable) (p t : ℕ) → IsTable w
+    → (has t (waiters w (Some p)) ≡ true) ↔ (place_of w t ≡ Some p)
+
+-- as the wait of the first thread of a place ends, the rest is left there
+abbrev pub RestIsLeft : Type 0
+RestIsLeft =
+    (w : WaitTable) (p t : ℕ) (ts : List ℕ) (e : End) → IsTable w → waiters w (Some p) ≡ t ∷ ts
+    → waiters (ended w t e) (Some p) ≡ ts
+
+-- who waits at a place stays so as a thread ends its wait at another, begins one there or goes
+-- first there
+pub record OthersStay : Type 0 where
+  pub end : (w : WaitTable) (t q : ℕ) (e : End) → place_of w t ≢ Some q
+      → waiters (ended w t e) (Some q) ≡ waiters w (Some q)
+  pub begin : (w : WaitTable) (t q : ℕ) (x : Wait) → place x.on ≢ Some q
+      → waiters (begun w t x) (Some q) ≡ waiters w (Some q)
+  pub first : (w : WaitTable) (t q : ℕ) → place_of w t ≢ Some q
+      → waiters (put_first w t) (Some q) ≡ waiters w (Some q)
+
+-- a thread that begins to wait at a place is the last there
+abbrev pub NewWaiterIsLast : Type 0
+NewWaiterIsLast =
+    (w : WaitTable) (t p : ℕ) (x : Wait) → IsTable w → place x.on ≡ Some p → p < place_count
+    → waiters (begun w t x) (Some p) ≡ waiters w (Some p) ++ t ∷ []
+
+-- a thread that goes first at its place stands before the others, which keep their order
+abbrev pub PutFirstIsFirst : Type 0
+PutFirstIsFirst =
+    (w : WaitTable) (t p : ℕ) → IsTable w → place_of w t ≡ Some p
+    → waiters (put_first w t) (Some p) ≡ t ∷ without t (waiters w (Some p))
+
+-- A thread's wait stays as another thread's wait ends or begins, and as a thread goes first. As it
+-- ends, the thread is in none; as it begins, in the new one.
+pub record WaitsStay : Type 0 where
+  pub end : (w : WaitTable) (t u : ℕ) (e : End) → u ≢ t → wait_of (ended w t e) u ≡ wait_of w u
+  pub over : (w : WaitTable) (t : ℕ) (e : End) → wait_of (ended w t e) t ≡ None
+  pub begin : (w : WaitTable) (t u : ℕ) (x : Wait) → u ≢ t → wait_of (begun w t x) u ≡ wait_of w u
+  pub new : (w : WaitTable) (t : ℕ) (x : Wait) → IsTable w → t < slot_limit
+      → wait_of (begun w t x) t ≡ Some x
+  pub first : (w : WaitTable) (t u : ℕ) → wait_of (put_first w t) u ≡ wait_of w u
 
 -- how many began is how many are pending and how many ended
 abbrev pub IsWhole : WaitTable → Type 0

@@ -1,10 +1,13 @@
 -- The waits of all threads: who waits where, in order, for what; and how many began and ended.
-use Rattle.std.specs.Prelude.{ℕ, ◌≡◌, ◌≢◌, ◌+◌, ◌<◌, ◌≤◌, ◌==◌, nat_eq, Bool, false, List, [], ◌∷◌, ◌++◌, length, replicate, count_by, slice_get, slice_set, is_some, Option, None, Some}
+use Rattle.std.specs.Prelude.{ℕ, ◌≡◌, ◌≢◌, ◌+◌, ◌<◌, ◌≤◌, ◌==◌, nat_eq, Bool, false, List, [], ◌∷◌}
+use Rattle.std.specs.Prelude.{◌++◌, length, replicate, count_by, slice_get, slice_set, is_some}
+use Rattle.std.specs.Prelude.{Option, None, Some}
 use Rattle.std.specs.List.{slice_index_or, IsDistinct}
 use Rattle.std.specs.Option.{option_map, option_map_or, option_and_then}
 use Rattle.tx_types.specs.Limits.{slot_limit}
 use Rattle.tx_types.specs.declared.waits.End.{End}
-use Rattle.tx_types.specs.declared.waits.End.TheVariants.{Satisfied, TimedOut, Aborted, Deleted, Gone}
+use Rattle.tx_types.specs.declared.waits.End.TheVariants.{Satisfied, TimedOut, Aborted, Deleted}
+use Rattle.tx_types.specs.declared.waits.End.TheVariants.{Gone}
 use Rattle.tx_types.specs.declared.waits.Totals.{Totals}
 use Rattle.suspend_lists.specs.ThreadList.{has, without, next_after}
 use Rattle.suspend_lists.specs.Wait.{place, place_count}

@@ -1,7 +1,7 @@
 //! What holds of every table of waits, for the layers above: each function's contract is a law.
 //!
 //! Their bodies do nothing; a function calls one where its proof needs the law.
-ghost use Rattle.suspend_lists.specs.Laws.{CallsKeepTheTable, TotalsKeepTheTable, RestoresKeepTheTable, AtOnePlace, OnceThere, ElseNowhere, IsWhole, CallsKeepItWhole, CallsAccount, HistoriesAccount, NextNumberIsNew, CallsCount, HistoriesCount};
+ghost use Rattle.suspend_lists.specs.Laws.{CallsKeepTheTable, TotalsKeepTheTable, RestoresKeepTheTable, AtOnePlace, OnceThere, ElseNowhere, IsWhole, CallsKeepItWhole, CallsAccount, HistoriesAccount, NextNumberIsNew, CallsCount, HistoriesCount, RestIsLeft, OthersStay, NewWaiterIsLast, PutFirstIsFirst, StandsWhereItWaits, WaitsStay};
 ghost use Rattle.suspend_lists.specs.Waits.{IsTable, new_table};
 
 /// Each call keeps what holds of every table.
@@ -36,4 +36,14 @@ pub fn no_number_is_given_twice()
     ensures calls { CallsAccount }
     ensures histories { HistoriesAccount }
     ensures next { NextNumberIsNew }
+{}
+
+/// What each call leaves of the threads that wait at a place, and of the waits.
+pub fn who_waits_at_a_place()
+    ensures next { RestIsLeft }
+    ensures others { OthersStay }
+    ensures joins { NewWaiterIsLast }
+    ensures first { PutFirstIsFirst }
+    ensures each { StandsWhereItWaits }
+    ensures stays { WaitsStay }
 {}

@@ -12,7 +12,7 @@ mod waits;
 
 pub use laws::{
     begun_is_pending_and_ended, calls_keep_the_table, each_thread_waits_once,
-    no_number_is_given_twice, totals_count_the_ends,
+    no_number_is_given_twice, totals_count_the_ends, who_waits_at_a_place,
 };
 pub use wait::{Asks, On, Pending, Wait};
 pub use waits::Waits;

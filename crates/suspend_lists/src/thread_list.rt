@@ -50,6 +50,20 @@ impl ThreadList {
         first_after(&self.threads, t)
     }
 
+    /// How many threads there are.
+    pub(crate) fn len(&self) -> usize
+        ensures { result ≡ length self.now }
+    {
+        self.threads.len()
+    }
+
+    /// All threads, in order.
+    pub(crate) fn to_vec(&self, alloc: Global) -> Result<Vec<ThreadNo>, NoMemory>
+        ensures { IfOk result (λ ts. ts.items ≡ self.now) }
+    {
+        Ok(self.threads.to_vec(alloc)?)
+    }
+
     /// Thread t goes last.
     pub(crate) fn push(&mut self, t: ThreadNo)
         requires room { length self.old < slot_limit }

@@ -92,6 +92,27 @@ impl Waits {
         self.lists[place].after(t)
     }
 
+    /// The threads that wait at a place, in order. Sleepers stand at none.
+    pub fn waiters(&self, alloc: Global, on: On) -> Result<Vec<ThreadNo>, NoMemory>
+        ensures same { IfOk result (λ ts. ts.items ≡ waiters self.now (place on)) }
+        ensures few { IfOk result (λ ts. length ts.items ≤ slot_limit) }
+    {
+        match on.place() {
+            Some(p) => self.lists[p].to_vec(alloc),
+            None => Ok(Vec::new(alloc)),
+        }
+    }
+
+    /// How many threads wait at a place, at most 256. Sleepers stand at none.
+    pub fn len(&self, on: On) -> u16
+        ensures { result ≡ length (waiters self.now (place on)) }
+    {
+        match on.place() {
+            Some(p) => self.lists[p].len() as u16,
+            None => 0,
+        }
+    }
+
     /// Thread t begins to wait, last at its place; the answer is the number of the wait.
     pub fn begin(&mut self, t: ThreadNo, w: Wait) -> WaitNo
         requires free { pending self.old t ≡ None }

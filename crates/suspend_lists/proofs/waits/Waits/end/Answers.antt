@@ -1,6 +1,6 @@
 use Rattle.std.proofs.Common.{◌≡◌, rules, subst, sym, IsSome}
 use Rattle.suspend_lists.specs.Wait.{place}
-use Rattle.suspend_lists.specs.Waits.{WaitTable, IsTable, pending, place_of, ended}
+use Rattle.suspend_lists.specs.Waits.{WaitTable, pending, place_of}
 use Rattle.suspend_lists.proofs.Kept.{ended_keeps}
 use Rattle.suspend_lists.proofs.waits.Waits.end.Goals as goal
 

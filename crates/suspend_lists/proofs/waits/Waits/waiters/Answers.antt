@@ -1,0 +1,14 @@
+use Rattle.std.proofs.Common.{ℕ, ◌<◌, ◌≤◌, List, [], length, Some, subst, sym, ◌∙◌}
+use Rattle.std.proofs.lemmas.List.{get_or_read}
+use Rattle.std.proofs.lemmas.Result.{IfOk-weaker}
+use Rattle.suspend_lists.specs.Waits.{WaitTable}
+use Rattle.suspend_lists.proofs.Kept.{few_at}
+use Rattle.suspend_lists.proofs.waits.Waits.waiters.Goals as goal
+
+pub returns-in-Some-clause-few : goal.returns-in-Some-clause-few
+returns-in-Some-clause-few c =
+    let w : WaitTable = record { totals = c.self.inside.totals; lists = c.self.inside.lists.items; waits = c.self.inside.waits.items } in
+    let inside : c.in-Some.p < length w.lists = subst (λ (n : ℕ). c.in-Some.p < n) (sym c.self.invariant.places) c.in-Some.ensures.below in
+    let read = get_or_read w.lists c.in-Some.p c.index.result.now inside c.index.ensures [] in
+    let few = few_at w (Some c.in-Some.p) c.self.invariant in
+    IfOk-weaker c.to_vec.result _ _ (λ ts same. subst (λ (us : List ℕ). length us ≤ 256) (sym read ∙ sym same) few) c.to_vec.ensures
