@@ -1,5 +1,6 @@
 -- Names that a module gives to a service.
-use Rattle.std.specs.Prelude.{ℕ, zero, suc, ◌+◌, ◌==◌, List, [], ◌∷◌, Result, Ok, Err, if◌then◌else◌}
+use Rattle.std.specs.Prelude.{ℕ, zero, suc, ◌+◌, ◌==◌, List, [], ◌∷◌, Result, Ok, Err}
+use Rattle.std.specs.Prelude.{if◌then◌else◌}
 use Rattle.tx_types.specs.Code.{ptr_error, invalid_memory}
 use Rattle.tx_types.specs.Limits.{name_limit}
 use Rattle.region_guard.specs.Memory.{Memory, byte, may}
