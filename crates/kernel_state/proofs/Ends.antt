@@ -1,5 +1,5 @@
 -- What the end of a wait, and that of a thread, leaves of waits and timeouts.
-use Rattle.std.proofs.Common.{◌≡◌, ◌≢◌, ℕ, ◌<◌, ◌≤◌, Bool, true, false, List, [], length, Option, None, Some, IsSome, refl, sym, ap, ◌∙◌, subst, ⊎_elim, arith}
+use Rattle.std.proofs.Common.{◌≡◌, ◌≢◌, ℕ, ◌<◌, ◌≤◌, Bool, true, false, List, [], length, Option, None, Some, IfSome, IsSome, refl, sym, ap, ◌∙◌, subst, ⊎_elim, arith}
 use Rattle.std.specs.Option.{option_map}
 use Rattle.std.proofs.lemmas.Bool.{cases_lt, cond_both, cond-true, cond-false, false≢true, true≢false}
 use Rattle.std.proofs.lemmas.List.{get_or-set_same, get_or-set_other, get_or_past}
@@ -15,6 +15,7 @@ use Rattle.suspend_lists.specs.Waits.{WaitTable, counted, ended as ended_wait, p
 use Rattle.suspend_lists.specs.declared.wait.Pending.{Pending}
 use Rattle.suspend_lists.specs.declared.wait.Wait.{Wait}
 use Rattle.kernel_state.specs.Change.{Change, quiet}
+use Rattle.kernel_state.specs.Contents.{IsAsked}
 use Rattle.kernel_state.specs.Kernel.{thread, is_thread}
 use Rattle.kernel_state.specs.Laws.{WaitsChangeOnly}
 use Rattle.kernel_state.specs.Readying.{made_ready}
@@ -48,7 +49,8 @@ none_past w t past = ap (option_map (λ (p : Pending). p.wait)) (get_or_past w.w
 
 pub waiter_below : (but : List ℕ) (k : Kernel) (t : ℕ) → IsSoundBut but k → IsSome (wait_of k.waits t) → t < 256
 waiter_below but k t sound some =
-    ⊎_elim (λ below. below) (λ past. absurd (none_some (wait_of k.waits t) (none_past k.waits t (omega (arith, sound.formed.waits.threads))) some)) (cases_lt t 256) where
+    ⊎_elim (λ below. below) (λ past. absurd (none_some (wait_of k.waits t) (none_past k.waits t (omega (arith, sound.formed.waits.threads))) some))
+    (cases_lt t 256) where
       none_some : (o : Option Wait) → o ≡ None → IsSome o → ⊥
       none_some None none is = false≢true is
       none_some (Some w) none is = cc
@@ -102,6 +104,7 @@ left_changes_only below but k t e sound some =
       others = λ u other. left_others k t u e other;
       other_timeouts = λ i other. below.spare_others k.wheel (Disarm t) i other;
       timeout = subst (λ o. IsTimeoutOf o (armed (disarmed k.wheel t) t)) (sym (left_is_none k t e inside)) (below.disarmed k.wheel t);
+      asked = subst (λ o. IfSome o (IsAsked k.objects k.queues k.semas)) (sym (left_is_none k t e inside)) tt;
     }
 
 -- a thread is over already, or waits, or neither
@@ -166,6 +169,7 @@ wait_end_raises_none k g t e value =
 
 pub end_raises_none : EndRaisesNone
 end_raises_none k g t state =
-    by_end k g t state (RaisesCounts 0 k) (λ _. none) (λ _. record { begun = omega arith; armings = omega arith; ticks = omega arith }) (λ _ _. record { begun = omega arith; armings = omega arith; ticks = omega arith }) where
+    by_end k g t state (RaisesCounts 0 k) (λ _. none) (λ _. record { begun = omega arith; armings = omega arith; ticks = omega arith })
+    (λ _ _. record { begun = omega arith; armings = omega arith; ticks = omega arith }) where
       none : RaisesCounts 0 k k
       none = record { begun = omega arith; armings = omega arith; ticks = omega arith }

@@ -19,6 +19,7 @@ use Rattle.kernel_state.specs.Kernel.{thread}
 use Rattle.kernel_state.specs.Laws.{RunningIsReady, ReadyIsThread}
 use Rattle.kernel_state.specs.Outcome.{answered}
 use Rattle.kernel_state.specs.Range.{Range, WritesAlone, allowed, range}
+use Rattle.kernel_state.specs.Results.{change_ranges}
 use Rattle.kernel_state.specs.Row.{IsKept, KeepsTables, IsNoRefusal, RunningCalls, LeftKeepsTables, AnsweredIsKept, ChangedIsKept, DoneIsKept, WrittenIsKept, UnlessIsKept, FoundIsKept, GivenIsKept, EitherIsKept}
 use Rattle.kernel_state.specs.Sound.{IsThread}
 use Rattle.kernel_state.specs.declared.answer.Answer.TheVariants.{Code}
@@ -33,10 +34,10 @@ running_calls is_ready_then is_thread_then k by sound runs =
     let right : IsThread k by = thread_of [] k by sound live in
     record { live = live; state = eqb-true (state_number (thread k by).state) 0 (sym right.ready ∙ ready) }
 
-success_is_no_refusal : IsNoRefusal (Code success)
+pub success_is_no_refusal : IsNoRefusal (Code success)
 success_is_no_refusal c same no_success not_lifted = no_success (let is_success : c ≡ success = cc in is_success)
 
-none_written : (r : List Range) (g : Memory) → WritesAlone r g g
+pub none_written : (r : List Range) (g : Memory) → WritesAlone r g g
 none_written r g = record { regions = refl; size = refl; bytes = λ x outside. refl }
 
 -- a change that leaves waits and timeouts
@@ -65,7 +66,7 @@ answered_is_kept r k g by c = record {
 
 pub changed_is_kept : ChangedIsKept
 changed_is_kept r k g by now answer no_refusal same keeps tables = record {
-  alone = λ sound. subst (WritesAlone r g) (sym same) (none_written r g);
+  alone = λ sound. let ranges = change_ranges k now.ends r in subst (WritesAlone ranges g) (sym same) (none_written ranges g);
   refusal = λ c is_c no_success not_lifted. absurd (no_refusal c is_c no_success not_lifted);
   caller = keeps;
   tables = tables;
@@ -98,21 +99,28 @@ pointer_may : (g : Memory) (m x n : ℕ) → pointer_refusal g m Store x n ≡ N
 pointer_may g m x n free =
     cond_both _ (Some ptr_error) _ (λ (o : Option ℕ). o ≡ None → may g m Store x n ≡ true)
     (λ bad same. cc)
-    (λ good. cond_both (may g m Store x n) None (Some invalid_memory) (λ (o : Option ℕ). o ≡ None → may g m Store x n ≡ true) (λ yes same. yes) (λ no same. cc))
+    (λ good. cond_both (may g m Store x n) None (Some invalid_memory) (λ (o : Option ℕ). o ≡ None → may g m Store x n ≡ true) (λ can same. can) (λ no same. cc))
     free
+
+-- words that are written where they may be change nothing else
+pub written_alone : LengthStays → BytesOutsideStay → UsedIsInRam → (g : Memory) (m x : ℕ) (ws : List ℕ) → IsSoundMemory g → 0 < length ws
+    → may g m Store x (4 * length ws) ≡ true → WritesAlone (range x (4 * length ws) ∷ []) g (with_words g x ws)
+written_alone length_stays outside_stays in_ram g m x ws sound some can =
+    let n = 4 * length ws in
+    let written = words_written length_stays outside_stays ws g x (in_ram g m Store x n sound (omega arith) can).from_base in
+    record {
+      regions = written.regions;
+      size = written.size;
+      bytes = λ y outside. written.bytes y (All-head (λ (r : Range). IsOutside r.base r.size y) (range x n) [] outside);
+    }
 
 allowed_is_written_alone : LengthStays → BytesOutsideStay → UsedIsInRam → (g : Memory) (m x : ℕ) (ws : List ℕ) → IsSoundMemory g → 0 < length ws
     → pointer_refusal g m Store x (4 * length ws) ≡ None → WritesAlone (allowed g m (range x (4 * length ws) ∷ [])) g (with_words g x ws)
 allowed_is_written_alone length_stays outside_stays in_ram g m x ws sound some free =
     let n = 4 * length ws in
-    let yes = pointer_may g m x n free in
-    let written = words_written length_stays outside_stays ws g x (in_ram g m Store x n sound (omega arith) yes).from_base in
-    subst (λ r. WritesAlone r g (with_words g x ws)) (sym (cond-true (may g m Store x n) (range x n ∷ []) [] yes))
-    (record {
-      regions = written.regions;
-      size = written.size;
-      bytes = λ y outside. written.bytes y (All-head (λ (r : Range). IsOutside r.base r.size y) (range x n) [] outside);
-    })
+    let can = pointer_may g m x n free in
+    subst (λ r. WritesAlone r g (with_words g x ws)) (sym (cond-true (may g m Store x n) (range x n ∷ []) [] can))
+    (written_alone length_stays outside_stays in_ram g m x ws sound some can)
 
 pub written_is_kept : LengthStays → BytesOutsideStay → UsedIsInRam → WrittenIsKept
 written_is_kept length_stays outside_stays in_ram k g by now m x ws some free keeps tables = record {
@@ -135,4 +143,4 @@ given_is_kept A r k g by (Err c) change goes_on = answered_is_kept r k g by c
 given_is_kept A r k g by (Ok x) change goes_on = goes_on x
 
 pub either_is_kept : EitherIsKept
-either_is_kept r k g by b x y if_so if_not = cond_both b x y (IsKept r k g by) (λ yes. if_so) (λ no. if_not)
+either_is_kept r k g by b x y if_so if_not = cond_both b x y (IsKept r k g by) (λ can. if_so) (λ no. if_not)

@@ -33,7 +33,8 @@ by_entry k t false sound ready = absurd (false≢true (sym sound.0 ∙ ready))
 All-has : (P : ℕ → Type 0) (xs : List ℕ) (t : ℕ) → All P xs → has t xs ≡ true → P t
 All-has P [] t all stands = absurd (false≢true stands)
 All-has P (x ∷ xs) t all stands =
-    ⊎_elim (λ here. subst P (eqb-true x t here) (All-head P x xs all)) (λ there. All-has P xs t (All-tail P x xs all) there) (or_cases (x == t) (has t xs) stands)
+    ⊎_elim (λ here. subst P (eqb-true x t here) (All-head P x xs all)) (λ there. All-has P xs t (All-tail P x xs all) there)
+    (or_cases (x == t) (has t xs) stands)
 
 pub ready_is_thread : ReadyIsThread
 ready_is_thread k t sound ready =

@@ -4,7 +4,8 @@ use Rattle.std.proofs.lemmas.Bool.{eq-eqb, ne_eqb}
 use Rattle.std.proofs.lemmas.List.{get_or-set_same, get_or-set_other}
 use Rattle.ready_maps.specs.Kept.{IsKept}
 use Rattle.ready_maps.specs.Laws.{Move, Ready, Unready, Yield, SetThreshold, SetPriority, MayMove, moved, MovesKeepTheFacts}
-use Rattle.ready_maps.specs.Members.{ReadyAddsOne, UnreadyTakesOne, YieldKeepsReady, ThresholdKeepsReady, PriorityKeepsReady, ReadyKeepsNumbers, UnreadyKeepsNumbers, YieldKeepsNumbers, ThresholdSetsNumbers, PrioritySetsNumbers}
+use Rattle.ready_maps.specs.Members.{ReadyAddsOne, UnreadyTakesOne, YieldKeepsReady, ThresholdKeepsReady, PriorityKeepsReady, ReadyKeepsNumbers}
+use Rattle.ready_maps.specs.Members.{UnreadyKeepsNumbers, YieldKeepsNumbers, ThresholdSetsNumbers, PrioritySetsNumbers}
 use Rattle.ready_maps.specs.Sched.{Sched, is_ready}
 use Rattle.kernel_state.specs.Scheduling.{ReadyChangesOne, UnreadyChangesOne, YieldChangesNone, ThresholdChangesOne, PriorityChangesOne}
 

@@ -1,8 +1,10 @@
 -- A kernel is sound where another was, if each number looks the same or is right; so it is where one thread, or one slot, changes.
-use Rattle.std.proofs.Common.{◌≡◌, ◌≢◌, ℕ, ◌<◌, ◌≤◌, ◌%◌, Bool, true, false, min, List, [], length, Option, None, Some, IfSome, refl, sym, ap, ◌∙◌, subst, ⊎_elim, inl, inr, arith}
+use Rattle.std.proofs.Common.{◌≡◌, ◌≢◌, ℕ, ◌<◌, ◌≤◌, ◌%◌, Bool, true, false, min, List, [], length, Option, IfSome, refl, sym, ap, ◌∙◌, subst, ⊎_elim, inl, inr, arith}
 use Rattle.std.proofs.lemmas.Bool.{cases_eq, cases_lt, false≢true}
 use Rattle.std.proofs.lemmas.List.{get_or-set_same, get_or-set_other, get_or_past, length-set}
 use Rattle.tx_types.specs.declared.state.State.TheVariants.{Ready}
+use Rattle.tx_types.specs.declared.kind.Kind.TheVariants.{Thread as ThreadKind, Queue as QueueKind, Semaphore as SemaphoreKind}
+use Rattle.msg_queues.specs.Entry.{Queue}
 use Rattle.object_grants.specs.Table.{slot, with_slot}
 use Rattle.object_grants.specs.Slot.{free_slot}
 use Rattle.object_grants.specs.declared.slot.Slot.{Slot}
@@ -11,15 +13,17 @@ use Rattle.rv_core.specs.Hart.{HartState}
 use Rattle.soft_timers.specs.Timers.{IsWheel, TimerTable, armed}
 use Rattle.soft_timers.specs.declared.due.Armed.{Armed}
 use Rattle.suspend_lists.specs.Waits.{WaitTable, wait_of}
+use Rattle.kernel_state.specs.Contents.{AreAsked, AreContents, IsAsked}
 use Rattle.kernel_state.specs.Kernel.{thread, with_thread, has_thread, is_thread, module_of, spot, with_spot, effective_priority, effective_threshold}
 use Rattle.kernel_state.specs.Laws.{AreAlike, EntryStays, IsRight, SoundFrom, EffectiveStays, EffectiveFits, with_all, WaitsChangeOnly, Suits, OneThreadChanges, OneStateChanges, OneWaitChanges, OneHartChanges, OneSlotChanges, OneSpotChanges, ThreadIsRight}
 use Rattle.kernel_state.specs.Scheduling.{ChangesOnly}
-use Rattle.kernel_state.specs.Sound.{IsSettled, IsSoundBut, IsThread, IsEntry, IsSpot, IsSlice, IsClean, IsTimeoutOf, IsWaitOf}
+use Rattle.kernel_state.specs.Sound.{IsSound, IsSettled, IsSoundBut, IsThread, IsEntry, IsSpot, IsSlice, IsClean, IsTimeoutOf, IsWaitOf}
 use Rattle.kernel_state.specs.Spot.{blank_spot}
 use Rattle.kernel_state.specs.Thread.{blank_thread, is_waiting, is_state}
 use Rattle.kernel_state.specs.declared.kernel.Kernel.{Kernel}
 use Rattle.kernel_state.specs.declared.spot.Spot.{Spot}
 use Rattle.kernel_state.specs.declared.thread.Thread.{Thread}
+use Rattle.kernel_state.proofs.Contents.{of_some, contents_by_kinds, asked_by_kinds, kind_stays, slot_keeps_kinds, slot_set}
 
 pub effective_stays : EffectiveStays
 unfolding effective_priority effective_threshold
@@ -83,7 +87,10 @@ right_stays but k now u levels same right =
       entry = subst (IsEntry now u) (sym same.live) (entry_stays k now u (is_thread k u) levels same refl right.entry);
       settled = λ live outside.
           let was = right.settled (sym same.live ∙ live) outside in
-          record { priority = same.priority ∙ (was.priority ∙ sym effective.0); threshold = same.threshold ∙ (was.threshold ∙ sym (effective.1 same.alike.threshold)) };
+          record {
+            priority = same.priority ∙ (was.priority ∙ sym effective.0);
+            threshold = same.threshold ∙ (was.threshold ∙ sym (effective.1 same.alike.threshold));
+          };
     }
 
 pub sound_from : SoundFrom
@@ -100,17 +107,14 @@ sound_from but k now sound from =
         waits = from.waits;
         wheel = from.wheel;
         clean = from.clean;
+        contents = from.contents;
+        asked = from.asked;
         entries = λ u below. (right u below).entry;
         timeouts = from.timeouts;
         places = from.places;
       };
       settled = λ u live outside. (right u (below_256 now u slots live)).settled live outside;
     }
-
--- a fact of what an option holds, from another
-pub IfSome-from : (o : Option ℕ) (P Q : ℕ → Type 0) → ((x : ℕ) → P x → Q x) → IfSome o P → IfSome o Q
-IfSome-from None P Q from h = tt
-IfSome-from (Some x) P Q from h = from x h
 
 -- a spot stays right where its module's callback thread stays one of that module's
 pub spot_stays : (k now : Kernel) (m : ℕ) → spot now m ≡ spot k m
@@ -119,7 +123,7 @@ pub spot_stays : (k now : Kernel) (m : ℕ) → spot now m ≡ spot k m
 spot_stays k now m same stays sound = record {
   shell = ap (λ (s : Spot). s.shell % 4) same ∙ sound.shell;
   callback = subst (λ (s : Spot). IfSome s.callback (λ t. (t < 256) × (is_thread now t ≡ true) × (module_of now t ≡ m))) (sym same)
-      (IfSome-from (spot k m).callback _ _ (λ c h. let after = stays c h.0 h.1 h.2 in (h.0, after.0, after.1)) sound.callback);
+      (of_some (spot k m).callback _ _ (λ c h. let after = stays c h.0 h.1 h.2 in (h.0, after.0, after.1)) sound.callback);
 }
 
 -- a thread that isn't the one that changes
@@ -143,14 +147,24 @@ same_waits but k t sound = record {
   others = λ u other. refl;
   other_timeouts = λ i other. refl;
   timeout = sound.formed.timeouts t;
+  asked = sound.formed.asked t;
 }
 
 -- each timeout is right where that of one thread is
-timeouts_right : (but : List ℕ) (k : Kernel) (t : ℕ) (w : WaitTable) (h : TimerTable) → IsSoundBut but k → WaitsChangeOnly k w h t → (i : ℕ) → IsTimeoutOf (wait_of w i) (armed h i)
+timeouts_right : (but : List ℕ) (k : Kernel) (t : ℕ) (w : WaitTable) (h : TimerTable) → IsSoundBut but k → WaitsChangeOnly k w h t → (i : ℕ)
+    → IsTimeoutOf (wait_of w i) (armed h i)
 timeouts_right but k t w h sound waits i =
     ⊎_elim (λ (same : i ≡ t). subst (λ n. IsTimeoutOf (wait_of w n) (armed h n)) (sym same) waits.timeout)
     (λ (other : i ≢ t). subst (λ o. IsTimeoutOf o (armed h i)) (sym (waits.others i other))
     (subst (IsTimeoutOf (wait_of k.waits i)) (sym (waits.other_timeouts i other)) (sound.formed.timeouts i)))
+    (cases_eq i t)
+
+-- what each wait asks is right where what that of one thread asks is
+all_asked : (but : List ℕ) (k : Kernel) (t : ℕ) (w : WaitTable) (h : TimerTable) → IsSoundBut but k → WaitsChangeOnly k w h t
+    → AreAsked k.objects k.queues k.semas w
+all_asked but k t w h sound waits i =
+    ⊎_elim (λ (same : i ≡ t). subst (λ n. IfSome (wait_of w n) (IsAsked k.objects k.queues k.semas)) (sym same) waits.asked)
+    (λ (other : i ≢ t). subst (λ o. IfSome o (IsAsked k.objects k.queues k.semas)) (sym (waits.others i other)) (sound.formed.asked i))
     (cases_eq i t)
 
 -- no thread changes its module
@@ -189,9 +203,13 @@ one_changes but k t now s w h sound live own changes waits suits settled =
       waits = waits.waits;
       wheel = waits.wheel;
       clean = sound.formed.clean;
-      entries = λ u u_below. ⊎_elim (λ (same : u ≡ t). inr (subst (IsRight but after) (sym same) itself)) (λ (other : u ≢ t). inl (other_stays k t u now s w h changes waits other)) (cases_eq u t);
+      contents = sound.formed.contents;
+      asked = all_asked but k t w h sound waits;
+      entries = λ u u_below. ⊎_elim (λ (same : u ≡ t). inr (subst (IsRight but after) (sym same) itself))
+          (λ (other : u ≢ t). inl (other_stays k t u now s w h changes waits other)) (cases_eq u t);
       timeouts = timeouts_right but k t w h sound waits;
-      places = λ m m_below. spot_stays k after m refl (λ c c_below is_one of_m. (is_one, modules_stay k t c now size own ∙ of_m)) (sound.formed.places m m_below);
+      places = λ m m_below. spot_stays k after m refl (λ c c_below is_one of_m. (is_one, modules_stay k t c now size own ∙ of_m))
+          (sound.formed.places m m_below);
     })
 
 pub one_thread_changes : OneThreadChanges
@@ -214,24 +232,37 @@ one_wait_changes but k t now s w h sound live keeps ready slice held wait waits 
       wait = wait;
     }) (λ outside.
     let settled = sound.settled t live outside in
-    record { priority = keeps.in_scheduler ∙ (settled.priority ∙ sym effective.0); threshold = keeps.threshold_in_scheduler ∙ (settled.threshold ∙ sym (effective.1 (ap (λ (x : Thread). x.threshold) here ∙ keeps.threshold))) })
+    record {
+      priority = keeps.in_scheduler ∙ (settled.priority ∙ sym effective.0);
+      threshold = keeps.threshold_in_scheduler ∙ (settled.threshold ∙ sym (effective.1 (ap (λ (x : Thread). x.threshold) here ∙ keeps.threshold)));
+    })
 
 pub one_state_changes : OneStateChanges
 one_state_changes but k t now s sound live keeps ready slice held wait =
     one_wait_changes but k t now s k.waits k.wheel sound live keeps ready slice held wait (same_waits but k t sound)
 
 -- a thread with other registers
-hart_alike : (k : Kernel) (t u : ℕ) (h : HartState) → t < length k.threads → AreAlike (thread k u) (thread (with_thread k t (record (thread k t) { hart = h })) u)
+hart_alike : (k : Kernel) (t u : ℕ) (h : HartState) → t < length k.threads
+    → AreAlike (thread k u) (thread (with_thread k t (record (thread k t) { hart = h })) u)
 hart_alike k t u h size =
     let now : Thread = record (thread k t) { hart = h } in
     let after = with_thread k t now in
-    let itself : AreAlike (thread k t) now = record { «module» = refl; state = refl; priority = refl; threshold = refl; slice = refl; left = refl; held = refl } in
+    let itself : AreAlike (thread k t) now = record {
+      «module» = refl;
+      state = refl;
+      priority = refl;
+      threshold = refl;
+      slice = refl;
+      left = refl;
+      held = refl;
+    } in
     ⊎_elim
     (λ (same : u ≡ t). subst (λ n. AreAlike (thread k n) (thread after n)) (sym same)
     (subst (AreAlike (thread k t)) (sym (get_or-set_same k.threads t now blank_thread size)) itself))
     (λ (other : u ≢ t). alike_if_same (thread k u) (thread after u) (get_or-set_other k.threads t u now blank_thread other)) (cases_eq u t)
 
-pub hart_changes : (but : List ℕ) (k : Kernel) (t : ℕ) (h : HartState) → IsSoundBut but k → t < 256 → IsSoundBut but (with_thread k t (record (thread k t) { hart = h }))
+pub hart_changes : (but : List ℕ) (k : Kernel) (t : ℕ) (h : HartState) → IsSoundBut but k → t < 256
+    → IsSoundBut but (with_thread k t (record (thread k t) { hart = h }))
 hart_changes but k t h sound below =
     let now : Thread = record (thread k t) { hart = h } in
     let after = with_thread k t now in
@@ -245,6 +276,8 @@ hart_changes but k t h sound below =
       waits = sound.formed.waits;
       wheel = sound.formed.wheel;
       clean = sound.formed.clean;
+      contents = sound.formed.contents;
+      asked = sound.formed.asked;
       timeouts = sound.formed.timeouts;
       entries = λ u u_below. inl (record {
         live = refl;
@@ -255,7 +288,8 @@ hart_changes but k t h sound below =
         threshold = refl;
         wait = refl;
       });
-      places = λ m m_below. spot_stays k after m refl (λ c c_below is_one of_m. (is_one, modules_stay k t c now size refl ∙ of_m)) (sound.formed.places m m_below);
+      places = λ m m_below. spot_stays k after m refl (λ c c_below is_one of_m. (is_one, modules_stay k t c now size refl ∙ of_m))
+          (sound.formed.places m m_below);
     })
 
 pub one_hart_changes : OneHartChanges
@@ -275,6 +309,8 @@ time_changes but k wheel clock due sound right same =
       waits = sound.formed.waits;
       wheel = right;
       clean = sound.formed.clean;
+      contents = sound.formed.contents;
+      asked = sound.formed.asked;
       timeouts = λ i. subst (IsTimeoutOf (wait_of k.waits i)) (sym (same i)) (sound.formed.timeouts i);
       entries = λ u u_below. inl (record {
         live = refl;
@@ -300,6 +336,8 @@ one_spot_changes k m now sound right =
       waits = sound.formed.waits;
       wheel = sound.formed.wheel;
       clean = sound.formed.clean;
+      contents = sound.formed.contents;
+      asked = sound.formed.asked;
       timeouts = sound.formed.timeouts;
       entries = λ u u_below. inl (record {
         live = refl;
@@ -315,35 +353,30 @@ one_spot_changes k m now sound right =
           let here : spot after m ≡ now = get_or-set_same k.spots m now blank_spot (omega (arith, sound.formed.spots, same, n_below)) in
           let itself : IsSpot after m now = record { shell = right.shell; callback = right.callback } in
           subst (λ i. IsSpot after i (spot after i)) (sym same) (subst (IsSpot after m) (sym here) itself))
-          (λ (other : n ≢ m). spot_stays k after n (get_or-set_other k.spots m n now blank_spot other) (λ c c_below is_one of_n. (is_one, of_n)) (sound.formed.places n n_below))
+          (λ (other : n ≢ m). spot_stays k after n (get_or-set_other k.spots m n now blank_spot other) (λ c c_below is_one of_n. (is_one, of_n))
+          (sound.formed.places n n_below))
           (cases_eq n m);
     })
 
-pub one_slot_changes : OneSlotChanges
-one_slot_changes k o now sound below clean same_kind same_owner =
-    let after : Kernel = record k { objects = with_slot k.objects o now } in
-    let size : o < length k.objects = omega (arith, sound.formed.slots) in
-    let here : slot after.objects o ≡ now = get_or-set_same k.objects o now (free_slot 0) size in
-    let there = λ (u : ℕ) (other : u ≢ o). get_or-set_other k.objects o u now (free_slot 0) other in
-    let threads = λ (u : ℕ). ⊎_elim {C = is_thread after u ≡ is_thread k u}
-    (λ (same : u ≡ o). subst (λ n. is_thread after n ≡ is_thread k n) (sym same) (ap has_thread here ∙ same_kind))
-    (λ (other : u ≢ o). ap has_thread (there u other)) (cases_eq u o) in
-    let owners = λ (u : ℕ) (live : is_thread k u ≡ true). ⊎_elim {C = (slot after.objects u).owner ≡ (slot k.objects u).owner}
-    (λ (same : u ≡ o). subst (λ n. (slot after.objects n).owner ≡ (slot k.objects n).owner) (sym same) (ap (λ (x : Slot). x.owner) here ∙ same_owner (subst (λ n. is_thread k n ≡ true) same live)))
-    (λ (other : u ≢ o). ap (λ (x : Slot). x.owner) (there u other)) (cases_eq u o) in
+-- slots and what is in the objects change, and the threads among them stay
+pub objects_change : (k : Kernel) (objects : List Slot) (queues : List (Option Queue)) (semas : List ℕ) → IsSound k → length objects ≡ length k.objects
+    → ((o : ℕ) → o < 256 → IsClean (slot objects o) (slot objects o).state) → ((o : ℕ) → has_thread (slot objects o) ≡ is_thread k o)
+    → ((o : ℕ) → is_thread k o ≡ true → (slot objects o).owner ≡ (slot k.objects o).owner) → AreContents objects queues semas
+    → AreAsked objects queues semas k.waits → IsSound (record k { objects = objects; queues = queues; semas = semas })
+objects_change k objects queues semas sound size clean threads owners contents asked =
+    let after : Kernel = record k { objects = objects; queues = queues; semas = semas } in
     sound_from [] k after sound (record {
       scheduler = sound.formed.scheduler;
       levels = refl;
-      slots = length-set k.objects o now;
+      slots = size;
       threads = refl;
       spots = refl;
       waits = sound.formed.waits;
       wheel = sound.formed.wheel;
       timeouts = sound.formed.timeouts;
-      clean = λ u u_below. ⊎_elim
-          (λ (same : u ≡ o). subst (λ n. IsClean (slot after.objects n) (slot after.objects n).state) (sym same) (subst (λ (x : Slot). IsClean x x.state) (sym here) clean))
-          (λ (other : u ≢ o). subst (λ (x : Slot). IsClean x x.state) (sym (there u other)) (sound.formed.clean u u_below))
-          (cases_eq u o);
+      clean = clean;
+      contents = contents;
+      asked = asked;
       entries = λ u u_below. inl (record {
         live = threads u;
         alike = alike_if_same (thread k u) (thread k u) refl;
@@ -355,3 +388,15 @@ one_slot_changes k o now sound below clean same_kind same_owner =
       });
       places = λ m m_below. spot_stays k after m refl (λ c c_below is_one of_m. (threads c ∙ is_one, of_m)) (sound.formed.places m m_below);
     })
+
+pub one_slot_changes : OneSlotChanges
+one_slot_changes k o now sound below clean same_kind same_owner =
+    let after = with_slot k.objects o now in
+    let size : o < length k.objects = omega (arith, sound.formed.slots) in
+    let kinds = slot_keeps_kinds k.objects o now size (same_kind QueueKind) (same_kind SemaphoreKind) in
+    objects_change k after k.queues k.semas sound (length-set k.objects o now)
+    (λ u u_below. slot_set (λ _ x. IsClean x x.state) k.objects o now size clean u (λ _. sound.formed.clean u u_below))
+    (kind_stays k.objects o now ThreadKind size (same_kind ThreadKind))
+    (λ u live. slot_set (λ n x. is_thread k n ≡ true → x.owner ≡ (slot k.objects n).owner) k.objects o now size same_owner u (λ _ _. refl) live)
+    (contents_by_kinds k.objects after k.queues k.semas kinds sound.formed.contents)
+    (asked_by_kinds k.objects after k.queues k.semas k.waits kinds sound.formed.asked)

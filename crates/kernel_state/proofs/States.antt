@@ -2,7 +2,8 @@
 use Rattle.std.proofs.Common.{◌≡◌, true, false, Option, None, Some, IsSome, refl, sym, ap, ◌∙◌, subst}
 use Rattle.std.proofs.lemmas.Bool.{false≢true}
 use Rattle.tx_types.specs.declared.state.State.{State}
-use Rattle.tx_types.specs.declared.state.State.TheVariants.{Ready, Completed, Terminated, Suspended, Sleep as Asleep, QueueSusp, SemaphoreSusp, EventFlag, BlockMemory, ByteMemory, MutexSusp}
+use Rattle.tx_types.specs.declared.state.State.TheVariants.{Ready, Completed, Terminated, Suspended, Sleep as Asleep, QueueSusp, SemaphoreSusp, EventFlag}
+use Rattle.tx_types.specs.declared.state.State.TheVariants.{BlockMemory, ByteMemory, MutexSusp}
 use Rattle.suspend_lists.specs.declared.wait.Asks.{Asks}
 use Rattle.suspend_lists.specs.declared.wait.Asks.TheVariants.{Sleep, Receive, Send, Instance, Own, Flags, Bytes, Block, Callback}
 use Rattle.suspend_lists.specs.declared.wait.Wait.{Wait}
@@ -56,7 +57,7 @@ some_if_waits state (Some w) waits right = refl
 
 pub waits_if_some : (state : State) (o : Option Wait) → IsSome o → IsWaitOf state o → is_waiting state ≡ true
 waits_if_some state None some right = absurd (false≢true some)
-waits_if_some state (Some w) some right = ap is_waiting right.0 ∙ ask_waits w.asks
+waits_if_some state (Some w) some right = ap is_waiting right ∙ ask_waits w.asks
 
 -- who doesn't wait is in none, and so is who is over
 pub none_if_rests : (state : State) (o : Option Wait) → is_waiting state ≡ false → IsWaitOf state o → o ≡ None

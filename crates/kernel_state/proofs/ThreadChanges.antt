@@ -17,12 +17,13 @@ use Rattle.kernel_state.specs.Serves.{Serves}
 use Rattle.kernel_state.specs.Scheduling.{ChangesOnly, ReadyChangesOne, UnreadyChangesOne}
 use Rattle.kernel_state.specs.Sound.{IsSound, IsSoundBut, IsSlice, IsWaitOf}
 use Rattle.kernel_state.specs.Thread.{blank_thread, is_over, is_state, is_waiting}
-use Rattle.kernel_state.specs.ThreadChanges.{with_fresh, ended_now}
+use Rattle.kernel_state.specs.ThreadChanges.{with_fresh, ended, ended_now}
 use Rattle.kernel_state.specs.ThreadLaws.{ReadyKeepsSound, UnreadyKeepsSound, HeldKeepsSound, FreshKeepsSound, EndKeepsSound, StartKeepsServing, SuspendKeepsServing, EndKeepsServing, ResetKeepsServing}
 use Rattle.kernel_state.specs.declared.kernel.Kernel.{Kernel}
 use Rattle.kernel_state.specs.declared.thread.Thread.{Thread}
 use Rattle.kernel_state.proofs.Making.{whole_slice}
-use Rattle.kernel_state.proofs.Ends.{Below, by_end, left_changes_only, left_is_none}
+use Rattle.kernel_state.proofs.Ends.{Below, by_end, end_keeps_memory, left_changes_only, left_is_none}
+use Rattle.kernel_state.proofs.Promises.{AreKept, fewer_waits, left_of_end}
 use Rattle.kernel_state.specs.Waiting.{left_wait}
 use Rattle.kernel_state.proofs.Sound.{below_256, thread_of}
 use Rattle.kernel_state.proofs.States.{over_rests, rests_on, some_if_waits, waits_not_ready}
@@ -62,7 +63,8 @@ rests state n same below = false_from_ne_true (is_waiting state) (not_waiting st
 -- the states in which a thread is over, by number
 over_number : (state : State) → is_over state ≡ true → (state_number state ≡ 1) ⊎ (state_number state ≡ 2)
 over_number state over =
-    ⊎_elim (λ completed. inl (eqb-true (state_number state) 1 completed)) (λ terminated. inr (eqb-true (state_number state) 2 terminated)) (or_cases (is_state state Completed) (is_state state Terminated) over)
+    ⊎_elim (λ completed. inl (eqb-true (state_number state) 1 completed)) (λ terminated. inr (eqb-true (state_number state) 2 terminated))
+    (or_cases (is_state state Completed) (is_state state Terminated) over)
 
 -- a thread that waits for nothing has no suspension that is held
 none_held : (but : List ℕ) (k : Kernel) (t : ℕ) → IsSoundBut but k → is_thread k t ≡ true → is_waiting (thread k t).state ≡ false → (thread k t).held ≡ false
@@ -70,7 +72,8 @@ none_held but k t sound live none =
     false_from_ne_true (thread k t).held (λ held. false≢true (sym none ∙ (thread_of but k t sound live).held held))
 
 -- a ready thread waits for nothing
-pub ready_rests : (but : List ℕ) (k : Kernel) (t : ℕ) → IsSoundBut but k → is_thread k t ≡ true → is_ready k.ready t ≡ true → is_waiting (thread k t).state ≡ false
+pub ready_rests : (but : List ℕ) (k : Kernel) (t : ℕ) → IsSoundBut but k → is_thread k t ≡ true → is_ready k.ready t ≡ true
+    → is_waiting (thread k t).state ≡ false
 ready_rests but k t sound live ready =
     let was = thread_of but k t sound live in
     rests (thread k t).state 0 (eqb-true (state_number (thread k t).state) 0 (sym was.ready ∙ ready)) (omega arith)
@@ -91,7 +94,8 @@ ready_keeps_sound changes readies but k t sound live absent none =
     (rests_on (thread k t).state Ready (wait_of k.waits t) was.wait none refl)
 
 -- a thread that was ready isn't any more, and has another state
-unreadied_keeps_sound : OneStateChanges → UnreadyChangesOne → (but : List ℕ) (k : Kernel) (t : ℕ) (state : State) (held : Bool) → IsSoundBut but k → is_thread k t ≡ true
+unreadied_keeps_sound : OneStateChanges → UnreadyChangesOne → (but : List ℕ) (k : Kernel) (t : ℕ) (state : State) (held : Bool) → IsSoundBut but k
+    → is_thread k t ≡ true
     → is_ready k.ready t ≡ true → is_state state Ready ≡ false → is_waiting state ≡ false → held ≡ false
     → IsSoundBut but (with_both k t (record (thread k t) { state = state; held = held }) (unreadied k.ready t))
 unreadied_keeps_sound changes unreadies but k t state held sound live ready other none not_held =
@@ -130,11 +134,13 @@ start_keeps_serving changes readies k g t serves live suspended_now =
     let number : state_number (thread k t).state ≡ 3 = eqb-true (state_number (thread k t).state) 3 suspended_now in
     let absent : is_ready k.ready t ≡ false = was.ready ∙ ap (λ n. n == 0) number in
     let here : thread (with_fresh k t false) t ≡ record (thread k t) { fresh = false } =
-    get_or-set_same k.threads t (record (thread k t) { fresh = false }) blank_thread (omega (arith, sound.formed.threads, below_256 k t sound.formed.slots live)) in
+    get_or-set_same k.threads t (record (thread k t) { fresh = false }) blank_thread
+    (omega (arith, sound.formed.threads, below_256 k t sound.formed.slots live)) in
     record {
       sound = ready_keeps_sound changes readies [] (with_fresh k t false) t (fresh_keeps_sound changes [] k t false sound live) live absent
           (ap (λ (x : Thread). is_waiting x.state) here ∙ rests (thread k t).state 3 number (omega arith));
       running = serves.running;
+      promised = serves.promised;
     }
 
 pub suspend_keeps_serving : OneStateChanges → UnreadyChangesOne → SuspendKeepsServing
@@ -143,9 +149,13 @@ suspend_keeps_serving changes unreadies k g t serves live =
     let was = thread_of [] k t sound live in
     let state = (thread k t).state in
     cond_both (is_state state Ready) _ _ (λ (j : Kernel). Serves j g)
-    (λ ready. record { sound = unready_keeps_sound changes unreadies [] k t Suspended sound live (was.ready ∙ ready) refl refl; running = serves.running })
+    (λ ready. record {
+      sound = unready_keeps_sound changes unreadies [] k t Suspended sound live (was.ready ∙ ready) refl refl;
+      running = serves.running;
+      promised = serves.promised;
+    })
     (λ not_ready. cond_both (is_waiting state) _ _ (λ (j : Kernel). Serves j g)
-    (λ waits. record { sound = held_keeps_sound changes [] k t true sound live (λ _. waits); running = serves.running })
+    (λ waits. record { sound = held_keeps_sound changes [] k t true sound live (λ _. waits); running = serves.running; promised = serves.promised })
     (λ _. serves))
 
 -- a state in which a thread is over isn't READY, and none in which it waits
@@ -188,7 +198,8 @@ waits_ends changes below k t state sound live over waits =
       in_scheduler = refl;
       threshold_in_scheduler = refl;
     }) (absent ∙ sym (over_is_not_ready state over)) was.slice (λ held. absurd (false≢true held))
-    (subst (IsWaitOf state) (sym (left_is_none k t Gone (omega (arith, sound.formed.waits.threads, below_256 k t sound.formed.slots live)))) (over_is_not_waiting state over)) only)
+    (subst (IsWaitOf state) (sym (left_is_none k t Gone (omega (arith, sound.formed.waits.threads, below_256 k t sound.formed.slots live))))
+    (over_is_not_waiting state over)) only)
 
 pub end_keeps_sound : OneStateChanges → OneWaitChanges → UnreadyChangesOne → Below → EndKeepsSound
 end_keeps_sound changes wait_changes unreadies below k g t state sound live over =
@@ -201,6 +212,9 @@ end_keeps_serving ends below k g t state serves live over = record {
   sound = ends k g t state serves.sound live over;
   running = by_end k g t state (λ j. IsRunning j.wheel) (λ _. serves.running)
       (λ _. below.keep_running k.wheel (Disarm t) tt serves.running) (λ _ _. serves.running);
+  promised = subst (AreKept (ended k g t state).kernel) (sym (end_keeps_memory k g t state))
+      (by_end k g t state (λ j. AreKept j g) (λ _. serves.promised)
+      (λ _. fewer_waits k (left_wait k t Gone) g g serves.promised refl refl refl (λ u x is. left_of_end k.waits t u Gone x is)) (λ _ _. serves.promised));
 }
 
 pub reset_keeps_serving : OneStateChanges → ResetKeepsServing
@@ -209,11 +223,18 @@ reset_keeps_serving changes k g t serves live over =
     let was = thread_of [] k t sound live in
     let state = (thread k t).state in
     let number = over_number state over in
-    let absent : is_ready k.ready t ≡ false = was.ready ∙ ⊎_elim (λ (n : state_number state ≡ 1). ap (λ m. m == 0) n) (λ (n : state_number state ≡ 2). ap (λ m. m == 0) n) number in
+    let absent : is_ready k.ready t ≡ false = was.ready ∙ ⊎_elim (λ (n : state_number state ≡ 1). ap (λ m. m == 0) n)
+    (λ (n : state_number state ≡ 2). ap (λ m. m == 0) n) number in
     let none = over_rests state over in
     record {
-      sound = alone_keeps_sound changes [] k t (record (thread k t) { hart = (thread k t).opening; state = Suspended; left = (thread k t).slice; fresh = true }) sound live refl refl refl
+      sound = alone_keeps_sound changes [] k t (record (thread k t) {
+        hart = (thread k t).opening;
+        state = Suspended;
+        left = (thread k t).slice;
+        fresh = true;
+      }) sound live refl refl refl
           absent (whole_slice (thread k t).slice) (λ held. absurd (false≢true (sym (none_held [] k t sound live none) ∙ held)))
           (rests_on state Suspended (wait_of k.waits t) was.wait none refl);
       running = serves.running;
+      promised = serves.promised;
     }

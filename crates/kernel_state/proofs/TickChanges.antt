@@ -22,6 +22,7 @@ use Rattle.kernel_state.specs.Waiting.{wait_ended}
 use Rattle.kernel_state.specs.declared.kernel.Kernel.{Kernel}
 use Rattle.kernel_state.proofs.Ends.{Below, none_past, wait_end_raises_none, wait_ended-due, wait_ended-wheel}
 use Rattle.kernel_state.proofs.Making.{whole_slice}
+use Rattle.kernel_state.proofs.Promises.{AreKept, wait_end_keeps_promises}
 use Rattle.kernel_state.proofs.Running.{running_is_ready, ready_is_thread}
 use Rattle.kernel_state.proofs.Sound.{thread_of, time_changes}
 use Rattle.kernel_state.proofs.ThreadChanges.{unchanged}
@@ -74,7 +75,8 @@ pub turn_sound : WaitEndKeepsSound → (k : Kernel) (g : Memory) (d : Armed) →
 turn_sound ends k g d sound =
     by_turn k g d (λ (c : Change). IsSound c.kernel) sound (λ _. sound) (λ _ some. ends [] k g d.id TimedOut [] sound some not_gone)
 
-turn_running : Lower → (k : Kernel) (g : Memory) (d : Armed) (ds : List Armed) → IsSound k → IsRunningBut (d ∷ ds) k.wheel → IsRunningBut ds (turn k g d).kernel.wheel
+turn_running : Lower → (k : Kernel) (g : Memory) (d : Armed) (ds : List Armed) → IsSound k → IsRunningBut (d ∷ ds) k.wheel
+    → IsRunningBut ds (turn k g d).kernel.wheel
 turn_running lower k g d ds sound running =
     by_turn k g d (λ (c : Change). IsRunningBut ds c.kernel.wheel) sound
     (λ over. lower.take_one k.wheel d ds sound.formed.wheel over running)
@@ -89,10 +91,23 @@ turn_due k g d =
     (λ _. wait_ended-due k g d.id TimedOut []) (λ _. refl))
     (λ _. refl)
 
-turns_sound : Lower → (ds : List Armed) (k : Kernel) (g : Memory) → IsSound k → IsRunningBut ds k.wheel → IsSound (turns ds k g).kernel × IsRunning (turns ds k g).kernel.wheel
+turns_sound : Lower → (ds : List Armed) (k : Kernel) (g : Memory) → IsSound k → IsRunningBut ds k.wheel
+    → IsSound (turns ds k g).kernel × IsRunning (turns ds k g).kernel.wheel
 turns_sound lower [] k g sound running = (sound, lower.none_running k.wheel running)
 turns_sound lower (d ∷ ds) k g sound running =
     turns_sound lower ds (turn k g d).kernel (turn k g d).memory (turn_sound lower.ends k g d sound) (turn_running lower k g d ds sound running)
+
+-- each turn leaves what is promised
+turn_keeps_promises : (k : Kernel) (g : Memory) (d : Armed) → AreKept k g → AreKept (turn k g d).kernel (turn k g d).memory
+turn_keeps_promises k g d promised =
+    cond_both (still k.wheel d) (expired k g d.id) (quiet k g) (λ (c : Change). AreKept c.kernel c.memory)
+    (λ _. cond_both (nat_lt d.id 256) (wait_ended k g d.id TimedOut []) (quiet k g) (λ (c : Change). AreKept c.kernel c.memory)
+    (λ _. wait_end_keeps_promises k g d.id TimedOut [] promised) (λ _. promised))
+    (λ _. promised)
+
+turns_keep_promises : (ds : List Armed) (k : Kernel) (g : Memory) → AreKept k g → AreKept (turns ds k g).kernel (turns ds k g).memory
+turns_keep_promises [] k g promised = promised
+turns_keep_promises (d ∷ ds) k g promised = turns_keep_promises ds (turn k g d).kernel (turn k g d).memory (turn_keeps_promises k g d promised)
 
 -- the time slice of the running thread
 runs_is : (o : Option ℕ) (t : ℕ) → option_map_or (λ u. u == t) o false ≡ true → o ≡ Some t
@@ -117,7 +132,8 @@ slice_used_sound lower k t sound is some =
     let was = thread_of [] k t sound live in
     let left = some_left (thread k t).slice (thread k t).left some was.slice in
     let yield = lower.yields k.ready t sound.formed.scheduler (subst IsSome (sym is) refl) in
-    cond_both ((thread k t).left - 1 == 0) (record (with_left k t (thread k t).slice) { ready = yielded k.ready }) (with_left k t ((thread k t).left - 1)) IsSound
+    cond_both ((thread k t).left - 1 == 0) (record (with_left k t (thread k t).slice) { ready = yielded k.ready })
+    (with_left k t ((thread k t).left - 1)) IsSound
     (λ _. lower.changes [] k t (record (thread k t) { left = (thread k t).slice }) (yielded k.ready) sound live (record {
       «module» = refl;
       priority = refl;
@@ -147,13 +163,25 @@ slice_treated_sound lower (Some t) k sound =
     (λ _. sound)
 
 -- it leaves waits and timeouts
-pub slice_treated_part : {X : Type 0} (part : Kernel → X) → ((k : Kernel) (now : Kernel) → now.waits ≡ k.waits → now.wheel ≡ k.wheel → part now ≡ part k) → (ran : Option ℕ) (k : Kernel) → part (slice_treated ran k) ≡ part k
+pub slice_treated_part : {X : Type 0} (part : Kernel → X) → ((k : Kernel) (now : Kernel) → now.waits ≡ k.waits → now.wheel ≡ k.wheel → part now ≡ part k)
+    → (ran : Option ℕ) (k : Kernel) → part (slice_treated ran k) ≡ part k
 slice_treated_part part stays None k = refl
 slice_treated_part part stays (Some t) k =
     cond_both (runs k t && has_slice (thread k t)) (slice_used k t) k (λ j. part j ≡ part k)
-    (λ _. cond_both ((thread k t).left - 1 == 0) (record (with_left k t (thread k t).slice) { ready = yielded k.ready }) (with_left k t ((thread k t).left - 1)) (λ j. part j ≡ part k)
-    (λ _. stays k (record (with_left k t (thread k t).slice) { ready = yielded k.ready }) refl refl) (λ _. stays k (with_left k t ((thread k t).left - 1)) refl refl))
+    (λ _. cond_both ((thread k t).left - 1 == 0) (record (with_left k t (thread k t).slice) { ready = yielded k.ready }) (with_left k t ((thread k t).left - 1))
+    (λ j. part j ≡ part k)
+    (λ _. stays k (record (with_left k t (thread k t).slice) { ready = yielded k.ready }) refl refl)
+    (λ _. stays k (with_left k t ((thread k t).left - 1)) refl refl))
     (λ _. refl)
+
+slice_keeps_promises : (ran : Option ℕ) (k : Kernel) (g : Memory) → AreKept k g → AreKept (slice_treated ran k) g
+slice_keeps_promises None k g promised = promised
+slice_keeps_promises (Some t) k g promised =
+    cond_both (runs k t && has_slice (thread k t)) (slice_used k t) k (λ j. AreKept j g)
+    (λ _. cond_both ((thread k t).left - 1 == 0) (record (with_left k t (thread k t).slice) { ready = yielded k.ready }) (with_left k t ((thread k t).left - 1))
+    (λ j. AreKept j g)
+    (λ _. promised) (λ _. promised))
+    (λ _. promised)
 
 pub counted_sound : TicksKeepTheWheel → (k : Kernel) → IsSound k → IsRunning k.wheel → HasRoom k → IsSound (tick_counted k)
 counted_sound tick k sound running room =
@@ -169,6 +197,7 @@ tick_keeps_serving lower k g serves room =
     record {
       sound = slice_treated_sound lower k.ready.run cleared sound;
       running = subst IsRunning (sym (slice_treated_part (λ j. j.wheel) (λ _ _ _ wheel. wheel) k.ready.run cleared)) all.1;
+      promised = slice_keeps_promises k.ready.run cleared (turns counted.due counted g).memory (turns_keep_promises counted.due counted g serves.promised);
     }
 
 -- counts
@@ -177,7 +206,11 @@ turns_counts [] k g = record { begun = omega arith; armings = omega arith; ticks
 turns_counts (d ∷ ds) k g =
     let one = turn_counts k g d in
     let rest = turns_counts ds (turn k g d).kernel (turn k g d).memory in
-    record { begun = omega (arith, one.begun, rest.begun); armings = omega (arith, one.armings, rest.armings); ticks = omega (arith, one.ticks, rest.ticks) } where
+    record {
+      begun = omega (arith, one.begun, rest.begun);
+      armings = omega (arith, one.armings, rest.armings);
+      ticks = omega (arith, one.ticks, rest.ticks);
+    } where
       turn_counts : (k : Kernel) (g : Memory) (d : Armed) → RaisesCounts 0 k (turn k g d).kernel
       turn_counts k g d =
           let none : RaisesCounts 0 k k = record { begun = omega arith; armings = omega arith; ticks = omega arith } in

@@ -1,5 +1,6 @@
 -- A change treats the waits by calls of their table, each of which may be made in its turn.
-use Rattle.std.proofs.Common.{◌≡◌, ◌≢◌, ◌⊎◌, ℕ, ◌<◌, ◌≤◌, true, false, List, [], ◌∷◌, ◌++◌, All, length, Option, None, Some, refl, sym, ap, ◌∙◌, subst, ⊎_elim, append-nil, append_assoc, arith}
+use Rattle.std.proofs.Common.{◌≡◌, ◌≢◌, ◌⊎◌, ℕ, ◌<◌, ◌≤◌, true, false, List, [], ◌∷◌, ◌++◌, All, length, Option, None, Some, refl, sym, ap, ◌∙◌, subst, ⊎_elim}
+use Rattle.std.proofs.Common.{append-nil, append_assoc, arith}
 use Rattle.std.specs.List.{slice_index_or}
 use Rattle.std.specs.Option.{option_map, option_to_list}
 use Rattle.std.proofs.lemmas.Bool.{cases_eq, cases_lt, cond_both, false≢true, false_from_ne_true}
@@ -24,7 +25,8 @@ use Rattle.kernel_state.specs.Thread.{blank_thread, is_over, is_waiting}
 use Rattle.kernel_state.specs.ThreadChanges.{ended, ended_now, over_by}
 use Rattle.kernel_state.specs.Ticks.{advanced, tick_counted, turn, turns}
 use Rattle.kernel_state.specs.WaitCalls.{CallsWaits, EndsWithItsThread}
-use Rattle.kernel_state.specs.WaitLaws.{BeginCallsWaits, EndCallsWaits, EndOnlyEnds, FollowedCallsWaits, LeftCallsWaits, TickCallsWaits, WaitEndCallsWaits, WaitEndKeepsSound}
+use Rattle.kernel_state.specs.WaitLaws.{BeginCallsWaits, EndCallsWaits, EndOnlyEnds, FollowedCallsWaits, LeftCallsWaits, TickCallsWaits, WaitEndCallsWaits}
+use Rattle.kernel_state.specs.WaitLaws.{WaitEndKeepsSound}
 use Rattle.kernel_state.specs.Waiting.{left_wait, wait_begun, wait_ended}
 use Rattle.kernel_state.specs.declared.kernel.Kernel.{Kernel}
 use Rattle.kernel_state.specs.declared.thread.Thread.{Thread}
@@ -109,7 +111,8 @@ begin_calls_waits k g t w ticks sound live rests placed =
 abbrev end_of : ℕ → End → WaitEnd
 end_of n e = record { wait = n; how = e }
 
-one_end : (P : WaitEnd → Type 0) (o : Option ℕ) (e : End) → ((n : ℕ) → o ≡ Some n → P (end_of n e)) → All P (option_to_list (option_map (λ n. end_of n e) o) ++ [])
+one_end : (P : WaitEnd → Type 0) (o : Option ℕ) (e : End) → ((n : ℕ) → o ≡ Some n → P (end_of n e))
+    → All P (option_to_list (option_map (λ n. end_of n e) o) ++ [])
 one_end P None e each = All-nil P
 one_end P (Some n) e each = All-cons P (end_of n e) [] (each n refl) (All-nil P)
 
@@ -148,13 +151,15 @@ stays_over k t u now over was =
     (cases_eq u t)
 
 -- by the end of a wait no number is given
-number_stays : (w : WaitTable) (t u n : ℕ) (e : End) → number_of (ended_wait w t e) u ≡ Some n → number_of w u ≡ Some n
+pub number_stays : (w : WaitTable) (t u n : ℕ) (e : End) → number_of (ended_wait w t e) u ≡ Some n → number_of w u ≡ Some n
 number_stays w t u n e is =
     ⊎_elim
     (λ (same : u ≡ t). subst (λ i. number_of w i ≡ Some n) (sym same)
     (⊎_elim
-    (λ (inside : t < length w.waits). absurd (none-some n (sym (ap (option_map (λ (p : Pending). p.number)) (get_or-set_same w.waits t None None inside)) ∙ here same)))
-    (λ (past : length w.waits ≤ t). sym (ap (λ ws. option_map (λ (p : Pending). p.number) (slice_index_or ws t None)) (set_past w.waits t None past)) ∙ here same)
+    (λ (inside : t < length w.waits). absurd (none-some n
+    (sym (ap (option_map (λ (p : Pending). p.number)) (get_or-set_same w.waits t None None inside)) ∙ here same)))
+    (λ (past : length w.waits ≤ t). sym (ap (λ ws. option_map (λ (p : Pending). p.number) (slice_index_or ws t None)) (set_past w.waits t None past))
+    ∙ here same)
     (cases_lt t (length w.waits))))
     (λ (other : u ≢ t). sym (ap (option_map (λ (p : Pending). p.number)) (get_or-set_other w.waits t u None None other)) ∙ is)
     (cases_eq u t) where

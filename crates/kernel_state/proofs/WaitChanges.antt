@@ -1,5 +1,5 @@
 -- The beginning and the end of a wait keep a kernel sound.
-use Rattle.std.proofs.Common.{◌≡◌, ◌≢◌, ℕ, ◌+◌, ◌^◌, ◌<◌, ◌≤◌, true, false, cond, List, [], length, Option, None, Some, IsSome, refl, sym, ap, ◌∙◌, subst, arith}
+use Rattle.std.proofs.Common.{◌≡◌, ◌≢◌, ℕ, ◌+◌, ◌^◌, ◌<◌, ◌≤◌, true, false, cond, List, [], length, Option, None, Some, IfSome, IsSome, refl, sym, ap, ◌∙◌, subst, arith}
 use Rattle.std.specs.Option.{option_map}
 use Rattle.std.proofs.lemmas.Bool.{cond_both, cond-true, false≢true}
 use Rattle.std.proofs.lemmas.List.{get_or-set_same, get_or-set_other}
@@ -16,6 +16,7 @@ use Rattle.suspend_lists.specs.declared.wait.Asks.{Asks}
 use Rattle.suspend_lists.specs.declared.wait.Asks.TheVariants.{Sleep}
 use Rattle.suspend_lists.specs.declared.wait.Pending.{Pending}
 use Rattle.suspend_lists.specs.declared.wait.Wait.{Wait}
+use Rattle.kernel_state.specs.Contents.{IsAsked}
 use Rattle.kernel_state.specs.Kernel.{thread, is_thread}
 use Rattle.kernel_state.specs.Laws.{OneWaitChanges, WaitsChangeOnly}
 use Rattle.kernel_state.specs.Readying.{made_ready}
@@ -47,8 +48,9 @@ none_armed : (but : List ℕ) (k : Kernel) (t : ℕ) → IsSoundBut but k → wa
 none_armed but k t sound none = subst (λ o. IsTimeoutOf o (armed k.wheel t)) none (sound.formed.timeouts t)
 
 begun_changes_only : Below → (but : List ℕ) (k : Kernel) (t : ℕ) (w : Wait) (ticks : ℕ) → IsSoundBut but k → t < 256 → wait_of k.waits t ≡ None
-    → IsTable (begun k.waits t w) → 0 < ticks → ticks < 2 ^ 32 → WaitsChangeOnly k (begun k.waits t w) (timed_wheel k t w.asks ticks) t
-begun_changes_only below but k t w ticks sound inside none table later short =
+    → IsAsked k.objects k.queues k.semas w → IsTable (begun k.waits t w) → 0 < ticks → ticks < 2 ^ 32
+    → WaitsChangeOnly k (begun k.waits t w) (timed_wheel k t w.asks ticks) t
+begun_changes_only below but k t w ticks sound inside none right table later short =
     let free = none_armed but k t sound none in
     let here = begun_is k t w (omega (arith, sound.formed.waits.threads)) in
     record {
@@ -61,6 +63,7 @@ begun_changes_only below but k t w ticks sound inside none table later short =
       timeout = subst (λ o. IsTimeoutOf o (armed (timed_wheel k t w.asks ticks) t)) (sym here) (λ (sleeps : w.asks ≡ Sleep).
           let timed : is_timed w.asks ticks ≡ true = ap (λ asks. is_timed asks ticks) sleeps in
           subst (λ h. IsSome (armed h t)) (sym (cond-true (is_timed w.asks ticks) (armed_for k.wheel t ticks) k.wheel timed)) (below.armed k.wheel t ticks));
+      asked = subst (λ o. IfSome o (IsAsked k.objects k.queues k.semas)) (sym here) right;
     }
 
 pub begin_keeps_sound : OneWaitChanges → UnreadyChangesOne → Below → BeginKeepsSound
@@ -78,8 +81,8 @@ begin_keeps_sound changes unreadies below but k t w ticks sound live ready right
       in_scheduler = unready.priority;
       threshold_in_scheduler = unready.threshold;
     }) (unready.ready ∙ sym (waits_not_ready asked (ask_waits w.asks))) was.slice (λ held. ask_waits w.asks)
-    (subst (IsWaitOf asked) (sym (begun_is k t w (omega (arith, sound.formed.waits.threads)))) (refl, right))
-    (begun_changes_only below but k t w ticks sound inside none table later short)
+    (subst (IsWaitOf asked) (sym (begun_is k t w (omega (arith, sound.formed.waits.threads)))) refl)
+    (begun_changes_only below but k t w ticks sound inside none right table later short)
 
 -- a timeout that is armed then has at least one tick left
 pub begin_keeps_running : CallsKeepRunning → (k : Kernel) (t : ℕ) (w : Wait) (ticks : ℕ) → IsSound k → is_thread k t ≡ true → is_ready k.ready t ≡ true
@@ -104,7 +107,8 @@ gone_on_sound changes readies below but k t e sound some =
     let none = left_is_none k t e (omega (arith, sound.formed.waits.threads)) in
     let ready = readies k.ready t sound.formed.scheduler inside absent in
     cond_both (thread k t).held (suspended_at_last (left_wait k t e) t) (made_ready (left_wait k t e) t) (IsSoundBut but)
-    (λ held. changes but k t (record (thread k t) { state = Suspended; held = false }) k.ready (ended_wait k.waits t e) (disarmed k.wheel t) sound live (record {
+    (λ held. changes but k t (record (thread k t) { state = Suspended; held = false }) k.ready (ended_wait k.waits t e) (disarmed k.wheel t) sound live
+    (record {
       «module» = refl;
       priority = refl;
       threshold = refl;
@@ -112,7 +116,8 @@ gone_on_sound changes readies below but k t e sound some =
       in_scheduler = refl;
       threshold_in_scheduler = refl;
     }) absent was.slice (λ is_held. absurd (false≢true is_held)) (subst (IsWaitOf Suspended) (sym none) refl) only)
-    (λ free. changes but k t (record (thread k t) { state = Ready; left = (thread k t).slice }) (readied k.ready t) (ended_wait k.waits t e) (disarmed k.wheel t) sound live (record {
+    (λ free. changes but k t (record (thread k t) { state = Ready; left = (thread k t).slice }) (readied k.ready t) (ended_wait k.waits t e)
+    (disarmed k.wheel t) sound live (record {
       «module» = refl;
       priority = refl;
       threshold = refl;
@@ -128,7 +133,8 @@ goes_on j t Aborted P stays on = on
 goes_on j t Deleted P stays on = on
 goes_on j t Gone P stays on = absurd (stays refl)
 
-answered_sound : OneWaitChanges → ReadyChangesOne → Below → (but : List ℕ) (k : Kernel) (t : ℕ) (e : End) (a : Option ℕ) → IsSoundBut but k → IsSome (wait_of k.waits t)
+answered_sound : OneWaitChanges → ReadyChangesOne → Below → (but : List ℕ) (k : Kernel) (t : ℕ) (e : End) (a : Option ℕ) → IsSoundBut but k
+    → IsSome (wait_of k.waits t)
     → e ≢ Gone → IsSoundBut but (released (with_answer_to (left_wait k t e) t a) t e)
 answered_sound changes readies below but k t e None sound some stays =
     goes_on (left_wait k t e) t e (IsSoundBut but) stays (gone_on_sound changes readies below but k t e sound some)
@@ -144,7 +150,8 @@ wait_end_keeps_sound changes readies below but k g t e value sound some stays =
 pub begin_raises_one : BeginRaisesOne
 begin_raises_one k t w ticks =
     let armings : (timed_wheel k t w.asks ticks).armings ≤ k.wheel.armings + 1 =
-    cond_both (is_timed w.asks ticks) (armed_for k.wheel t ticks) k.wheel (λ (h : TimerTable). h.armings ≤ k.wheel.armings + 1) (λ _. omega arith) (λ _. omega arith) in
+    cond_both (is_timed w.asks ticks) (armed_for k.wheel t ticks) k.wheel (λ (h : TimerTable). h.armings ≤ k.wheel.armings + 1) (λ _. omega arith)
+    (λ _. omega arith) in
     let ticks_stay : (timed_wheel k t w.asks ticks).ticks ≡ k.wheel.ticks =
     cond_both (is_timed w.asks ticks) (armed_for k.wheel t ticks) k.wheel (λ (h : TimerTable). h.ticks ≡ k.wheel.ticks) (λ _. refl) (λ _. refl) in
     record { begun = omega arith; armings = armings; ticks = omega (arith, ticks_stay) }

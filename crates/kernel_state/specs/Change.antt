@@ -1,4 +1,5 @@
--- What a change leaves: the kernel, memory, and the waits that it ended, which the kernel counts and doesn't keep.
+-- What a change leaves: the kernel, memory, and the waits that it ended, which the kernel counts
+-- and doesn't keep.
 use Rattle.std.specs.Prelude.{List, [], ◌++◌}
 use Rattle.tx_types.specs.End.{WaitEnd}
 use Rattle.region_guard.specs.Memory.{Memory}

@@ -1,9 +1,12 @@
--- The kernel's state: object slots, threads, the scheduler, where each module's threads begin, waits, timeouts and the clock.
+-- The kernel's state: object slots, threads, the scheduler, where each module's threads begin,
+-- waits, timeouts and the clock.
 use Rattle.std.specs.Prelude.{ℕ, ◌==◌, ◌&&◌, Bool, min, List, [], slice_set, replicate, Option, None, Some, if◌then◌else◌}
 use Rattle.std.specs.List.{slice_index_or}
 use Rattle.tx_types.specs.Limits.{module_limit, priority_count, slot_limit}
 use Rattle.tx_types.specs.declared.kind.Kind.{Kind}
 use Rattle.tx_types.specs.declared.kind.Kind.TheVariants.{Thread as ThreadKind}
+use Rattle.msg_queues.specs.Queues.{no_queues}
+use Rattle.sync_objects.specs.Semas.{no_semas}
 use Rattle.object_grants.specs.Slot.{free_slot, is_in, is_kind}
 use Rattle.object_grants.specs.Table.{slot, after_make_live, after_make_empty}
 use Rattle.object_grants.specs.declared.slot.Slot.{Slot}
@@ -56,15 +59,18 @@ effective_threshold k t = min (thread k t).threshold (effective_priority k t)
 -- a thread is made in a slot: suspended, with its numbers in the scheduler
 abbrev pub made_thread : Kernel → ℕ → ThreadSpec → Kernel
 made_thread k t s =
-    record k { threads = slice_set k.threads t (new_thread s); ready = priority_set k.ready t s.priority s.threshold }
+    record k {
+      threads = slice_set k.threads t (new_thread s);
+      ready = priority_set k.ready t s.priority s.threshold;
+    }
 
 -- a thread's object is created in a slot, with its name
 abbrev pub placed : Kernel → ℕ → List ℕ → ThreadSpec → Kernel
 placed k o name s = made_thread (record k { objects = after_make_live k.objects o name }) o s
 
--- an object of any kind is removed: its grants and its name end, and the slot is Empty
-abbrev pub removed : Kernel → ℕ → Kernel
-removed k o = record k { objects = after_make_empty k.objects o }
+-- the slot of an object that ends is Empty, without grants and name
+abbrev pub slot_emptied : Kernel → ℕ → Kernel
+slot_emptied k o = record k { objects = after_make_empty k.objects o }
 
 -- a thread that is removed is no module's callback thread any more
 abbrev pub unless_is : ℕ → Option ℕ → Option ℕ
@@ -73,12 +79,14 @@ unless_is t (Some u) = if u == t then None else Some u
 
 abbrev pub without_callback : Kernel → ℕ → Kernel
 without_callback k t =
-    let m = module_of k t in with_spot k m (record (spot k m) { callback = unless_is t (spot k m).callback })
+    let m = module_of k t in with_spot k m
+    (record (spot k m) { callback = unless_is t (spot k m).callback })
 
 abbrev pub removed_thread : Kernel → ℕ → Kernel
-removed_thread k t = removed (without_callback k t) t
+removed_thread k t = slot_emptied (without_callback k t) t
 
--- no object, no thread, and no module has a place yet; nothing waits, nothing is armed, and no tick came
+-- no object, no thread, and no module has a place yet; nothing waits, nothing is armed, and no tick
+-- came
 abbrev pub blank_kernel : Kernel
 blank_kernel = record {
   ready = new_sched priority_count;
@@ -86,6 +94,8 @@ blank_kernel = record {
   threads = replicate slot_limit blank_thread;
   spots = replicate module_limit blank_spot;
   waits = new_table;
+  queues = no_queues;
+  semas = no_semas;
   wheel = no_timers;
   clock = 0;
   due = [];

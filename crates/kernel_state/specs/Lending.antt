@@ -16,4 +16,5 @@ LendsThread k t lent = Lends kernel_row.the_row thread_row.the_row k lent (with_
 -- the kernel ends with the thread's registers as they were left
 abbrev pub LendsHart : MutBor Kernel → ℕ → MutBor HartState → Fml
 LendsHart k t lent =
-    Lends kernel_row.the_row hart_row.the_row k lent (λ now. with_thread k.now t (record (thread k.now t) { hart = now }))
+    Lends kernel_row.the_row hart_row.the_row k lent
+    (λ now. with_thread k.now t (record (thread k.now t) { hart = now }))

@@ -1,5 +1,5 @@
--- What a service leaves and answers. A row of the table of services reads so: its refusals from left to right, each by
--- `found`, `given` or `unless`, and then its change.
+-- What a service leaves and answers. A row of the table of services reads so: its refusals from
+-- left to right, each by `found`, `given` or `unless`, and then its change.
 use Rattle.std.specs.Prelude.{ℕ, Bool, Option, None, Some, Result, Ok, Err, if◌then◌else◌}
 use Rattle.tx_types.specs.Code.{success}
 use Rattle.region_guard.specs.Memory.{Memory}

@@ -1,5 +1,5 @@
--- The registers of a call: a7 is the number of what is asked for, a0 to a6 are its arguments, and a0
--- gets the answer.
+-- The registers of a call: a7 is the number of what is asked for, a0 to a6 are its arguments, and
+-- a0 gets the answer.
 use Rattle.std.specs.Prelude.{ℕ, Bool, List, [], ◌∷◌, slice_index, if◌then◌else◌}
 use Rattle.rv_core.specs.Hart.{HartState, register, with_register}
 use Rattle.rv_core.specs.Registers.{a0, a1, a2, a3, a4, a5, a6, a7}
@@ -24,4 +24,5 @@ flag b = if b then 1 else 0
 
 -- the a0 of a thread is set
 abbrev pub with_a0 : Kernel → ℕ → ℕ → Kernel
-with_a0 k t value = with_thread k t (record (thread k t) { hart = with_register (thread k t).hart a0 value })
+with_a0 k t value =
+    with_thread k t (record (thread k t) { hart = with_register (thread k t).hart a0 value })

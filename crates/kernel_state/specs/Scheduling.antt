@@ -45,7 +45,8 @@ pub record SetsPriority (s : Sched) (t p q : ℕ) : Type 0 where
   pub threshold : th (priority_set s t p q) t ≡ q
 
 abbrev pub ReadyChangesOne : Type 0
-ReadyChangesOne = (s : Sched) (t : ℕ) → IsKept s → t < slot_limit → is_ready s t ≡ false → Readies s t
+ReadyChangesOne =
+    (s : Sched) (t : ℕ) → IsKept s → t < slot_limit → is_ready s t ≡ false → Readies s t
 
 abbrev pub UnreadyChangesOne : Type 0
 UnreadyChangesOne = (s : Sched) (t : ℕ) → IsKept s → is_ready s t ≡ true → Unreadies s t
@@ -55,9 +56,10 @@ YieldChangesNone = (s : Sched) (t : ℕ) → IsKept s → IsSome s.run → Yield
 
 abbrev pub ThresholdChangesOne : Type 0
 ThresholdChangesOne =
-    (s : Sched) (t threshold : ℕ) → IsKept s → t < slot_limit → threshold ≤ pr s t → SetsThreshold s t threshold
+    (s : Sched) (t threshold : ℕ) → IsKept s → t < slot_limit → threshold ≤ pr s t
+    → SetsThreshold s t threshold
 
 abbrev pub PriorityChangesOne : Type 0
 PriorityChangesOne =
-    (s : Sched) (t priority threshold : ℕ) → IsKept s → t < slot_limit → threshold ≤ priority → priority < s.levels
-    → SetsPriority s t priority threshold
+    (s : Sched) (t priority threshold : ℕ) → IsKept s → t < slot_limit → threshold ≤ priority
+    → priority < s.levels → SetsPriority s t priority threshold

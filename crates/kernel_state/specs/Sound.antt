@@ -1,5 +1,6 @@
--- What holds of the kernel's state: it is formed, and the scheduler has each thread's effective pair.
-use Rattle.std.specs.Prelude.{◌≡◌, ◌≢◌, ◌⊎◌, ◌↔◌, ℕ, ◌%◌, ◌<◌, ◌≤◌, Bool, true, false, List, [], length, All, Option, None, Some, IfSome, IsSome}
+-- What holds of the kernel's state: it is formed, and the scheduler has each thread's effective
+-- pair.
+use Rattle.std.specs.Prelude.{◌≡◌, ◌≢◌, ◌⊎◌, ℕ, ◌%◌, ◌<◌, ◌≤◌, Bool, true, false, List, [], length, All, Option, None, Some, IfSome, IsSome}
 use Rattle.tx_types.specs.Limits.{module_limit, slot_limit}
 use Rattle.tx_types.specs.declared.state.State.{State}
 use Rattle.tx_types.specs.declared.state.State.TheVariants.{Ready}
@@ -13,15 +14,16 @@ use Rattle.soft_timers.specs.Timers.{IsWheel, armed}
 use Rattle.soft_timers.specs.declared.due.Armed.{Armed}
 use Rattle.suspend_lists.specs.Waits.{IsTable, wait_of}
 use Rattle.suspend_lists.specs.declared.wait.Asks.TheVariants.{Sleep}
-use Rattle.suspend_lists.specs.declared.wait.On.TheVariants.{Sleep as Nowhere}
 use Rattle.suspend_lists.specs.declared.wait.Wait.{Wait}
+use Rattle.kernel_state.specs.Contents.{AreContents, AreAsked}
 use Rattle.kernel_state.specs.Thread.{is_state, is_waiting}
 use Rattle.kernel_state.specs.Kernel.{thread, is_thread, module_of, spot, effective_priority, effective_threshold}
 use Rattle.kernel_state.specs.Waiting.{state_of_ask}
 use Rattle.kernel_state.specs.declared.kernel.Kernel.{Kernel}
 use Rattle.kernel_state.specs.declared.spot.Spot.{Spot}
 
--- a slot without an object has no name and no grants, and one that is free no owner either; no name has a zero byte
+-- a slot without an object has no name and no grants, and one that is free no owner either; no name
+-- has a zero byte
 abbrev pub IsClean : Slot → SlotState → Type 0
 IsClean s Free = (s.owner ≡ 0) × (s.grants ≡ 0) × (s.name ≡ [])
 IsClean s Empty = (s.grants ≡ 0) × (s.name ≡ [])
@@ -31,14 +33,10 @@ IsClean s Live = All (λ b. b ≢ 0) s.name
 abbrev pub IsSlice : ℕ → ℕ → Type 0
 IsSlice slice left = ((slice ≡ 0) × (left ≡ 0)) ⊎ ((1 ≤ left) × (left ≤ slice))
 
--- a wait is right: a sleep has no place, and any other wait has one
-abbrev pub IsWait : Wait → Type 0
-IsWait w = (w.asks ≡ Sleep) ↔ (w.on ≡ Nowhere)
-
 -- who is in a wait has the state of what it asked for, and who isn't is in no such state
 abbrev pub IsWaitOf : State → Option Wait → Type 0
 IsWaitOf state None = is_waiting state ≡ false
-IsWaitOf state (Some w) = (state ≡ state_of_ask w.asks) × IsWait w
+IsWaitOf state (Some w) = state ≡ state_of_ask w.asks
 
 -- a sleeper's timeout is armed, and who is in no wait has none that is; timers are never armed yet
 abbrev pub IsTimeoutOf : Option Wait → Option Armed → Type 0
@@ -63,9 +61,11 @@ IsEntry k t false = (is_ready k.ready t ≡ false) × (wait_of k.waits t ≡ Non
 -- a module's threads begin at a multiple of 4, and its callback thread is a thread of its own
 pub record IsSpot (k : Kernel) (m : ℕ) (s : Spot) : Type 0 where
   pub shell : s.shell % 4 ≡ 0
-  pub callback : IfSome s.callback (λ t. (t < slot_limit) × (is_thread k t ≡ true) × (module_of k t ≡ m))
+  pub callback : IfSome s.callback (λ t. (t < slot_limit) × (is_thread k t ≡ true)
+      × (module_of k t ≡ m))
 
--- the tables, their slots, the spots, the own facts of each thread, and the timeouts
+-- the tables, their slots, what is in the objects and is asked of them, the spots, the own facts of
+-- each thread, and the timeouts
 pub record IsFormed (k : Kernel) : Type 0 where
   pub scheduler : IsKept k.ready
   pub slots : length k.objects ≡ slot_limit
@@ -74,6 +74,8 @@ pub record IsFormed (k : Kernel) : Type 0 where
   pub waits : IsTable k.waits
   pub wheel : IsWheel k.wheel
   pub clean : (o : ℕ) → o < slot_limit → IsClean (slot k.objects o) (slot k.objects o).state
+  pub contents : AreContents k.objects k.queues k.semas
+  pub asked : AreAsked k.objects k.queues k.semas k.waits
   pub entries : (t : ℕ) → t < slot_limit → IsEntry k t (is_thread k t)
   pub timeouts : (i : ℕ) → IsTimeoutOf (wait_of k.waits i) (armed k.wheel i)
   pub places : (m : ℕ) → m < module_limit → IsSpot k m (spot k m)

@@ -11,7 +11,8 @@ use Rattle.kernel_state.specs.Kernel.{module_of}
 use Rattle.kernel_state.specs.Outcome.{refused}
 use Rattle.kernel_state.specs.declared.kernel.Kernel.{Kernel}
 
--- the Live object of a kind that a reference names, where the caller's module owns it or was granted it
+-- the Live object of a kind that a reference names, where the caller's module owns it or was
+-- granted it
 abbrev pub named : Kernel → ℕ → ℕ → Kind → Option ℕ
 named k by r kind = named_slot k.objects r (is_live_for (module_of k by) kind)
 

@@ -10,13 +10,15 @@ use Rattle.kernel_state.specs.Serves.{Serves}
 use Rattle.kernel_state.specs.Sound.{IsSound, IsSoundBut}
 use Rattle.kernel_state.specs.Thread.{is_over, is_state, is_waiting}
 use Rattle.kernel_state.specs.Readying.{made_ready, made_unready}
-use Rattle.kernel_state.specs.ThreadChanges.{with_fresh, with_held, started, suspended, ended, reset}
+use Rattle.kernel_state.specs.ThreadChanges.{with_fresh, with_held, started, suspended, ended}
+use Rattle.kernel_state.specs.ThreadChanges.{reset}
 use Rattle.kernel_state.specs.declared.kernel.Kernel.{Kernel}
 
 -- a thread that neither is ready nor waits becomes ready
 abbrev pub ReadyKeepsSound : Type 0
 ReadyKeepsSound =
-    (but : List ℕ) (k : Kernel) (t : ℕ) → IsSoundBut but k → is_thread k t ≡ true → is_ready k.ready t ≡ false
+    (but : List ℕ) (k : Kernel) (t : ℕ) → IsSoundBut but k → is_thread k t ≡ true
+    → is_ready k.ready t ≡ false
     → is_waiting (thread k t).state ≡ false → IsSoundBut but (made_ready k t)
 
 -- a ready thread is suspended, or ends
@@ -49,11 +51,12 @@ Leaves c = Serves c.kernel c.memory
 
 abbrev pub StartKeepsServing : Type 0
 StartKeepsServing =
-    (k : Kernel) (g : Memory) (t : ℕ) → Serves k g → is_thread k t ≡ true → is_state (thread k t).state Suspended ≡ true
-    → Leaves (started k g t)
+    (k : Kernel) (g : Memory) (t : ℕ) → Serves k g → is_thread k t ≡ true
+    → is_state (thread k t).state Suspended ≡ true → Leaves (started k g t)
 
 abbrev pub SuspendKeepsServing : Type 0
-SuspendKeepsServing = (k : Kernel) (g : Memory) (t : ℕ) → Serves k g → is_thread k t ≡ true → Leaves (suspended k g t)
+SuspendKeepsServing =
+    (k : Kernel) (g : Memory) (t : ℕ) → Serves k g → is_thread k t ≡ true → Leaves (suspended k g t)
 
 abbrev pub EndKeepsServing : Type 0
 EndKeepsServing =
@@ -62,5 +65,5 @@ EndKeepsServing =
 
 abbrev pub ResetKeepsServing : Type 0
 ResetKeepsServing =
-    (k : Kernel) (g : Memory) (t : ℕ) → Serves k g → is_thread k t ≡ true → is_over (thread k t).state ≡ true
-    → Leaves (reset k g t)
+    (k : Kernel) (g : Memory) (t : ℕ) → Serves k g → is_thread k t ≡ true
+    → is_over (thread k t).state ≡ true → Leaves (reset k g t)

@@ -1,14 +1,19 @@
 -- How the wait of a thread begins, and how it ends.
-use Rattle.std.specs.Prelude.{◌≡◌, ℕ, ◌*◌, ◌==◌, ◌||◌, Bool, true, false, not, List, length, Option, None, Some, IfSome, if◌then◌else◌}
+use Rattle.std.specs.Prelude.{◌≡◌, ℕ, ◌*◌, ◌==◌, ◌||◌, Bool, true, false, not, List, length, Option}
+use Rattle.std.specs.Prelude.{None, Some, IfSome, if◌then◌else◌}
 use Rattle.std.specs.Option.{option_and_then, option_map, option_to_list}
 use Rattle.tx_types.specs.Code.{success, deleted, wait_aborted}
 use Rattle.tx_types.specs.declared.state.State.{State}
-use Rattle.tx_types.specs.declared.state.State.TheVariants.{Suspended, Sleep as Asleep, QueueSusp, SemaphoreSusp, EventFlag, BlockMemory, ByteMemory, MutexSusp}
+use Rattle.tx_types.specs.declared.state.State.TheVariants.{Suspended, Sleep as Asleep, QueueSusp}
+use Rattle.tx_types.specs.declared.state.State.TheVariants.{SemaphoreSusp, EventFlag, BlockMemory}
+use Rattle.tx_types.specs.declared.state.State.TheVariants.{ByteMemory, MutexSusp}
 use Rattle.tx_types.specs.declared.waits.End.{End}
-use Rattle.tx_types.specs.declared.waits.End.TheVariants.{Satisfied, TimedOut, Aborted, Deleted, Gone}
+use Rattle.tx_types.specs.declared.waits.End.TheVariants.{Satisfied, TimedOut, Aborted, Deleted}
+use Rattle.tx_types.specs.declared.waits.End.TheVariants.{Gone}
 use Rattle.suspend_lists.specs.Waits.{begun, ended, number_of, place_of, wait_of}
 use Rattle.suspend_lists.specs.declared.wait.Asks.{Asks}
-use Rattle.suspend_lists.specs.declared.wait.Asks.TheVariants.{Sleep, Receive, Send, Instance, Own, Flags, Bytes, Block, Callback}
+use Rattle.suspend_lists.specs.declared.wait.Asks.TheVariants.{Sleep, Receive, Send, Instance, Own}
+use Rattle.suspend_lists.specs.declared.wait.Asks.TheVariants.{Flags, Bytes, Block, Callback}
 use Rattle.suspend_lists.specs.declared.wait.Wait.{Wait}
 use Rattle.soft_timers.specs.Timers.{armed_for, disarmed}
 use Rattle.call_arguments.specs.Words.{with_words}
@@ -88,8 +93,8 @@ result_of w Aborted = None
 result_of w Deleted = None
 result_of w Gone = None
 
--- what the call answers whose wait ends so: after a timeout what it said itself; who is gone gets no
--- answer
+-- what the call answers whose wait ends so: after a timeout what it said itself; who is gone gets
+-- no answer
 abbrev pub answer_of : Option Wait → End → Option ℕ
 answer_of w Satisfied = Some success
 answer_of w TimedOut = option_map (λ x. x.code) w

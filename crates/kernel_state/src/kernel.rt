@@ -8,7 +8,7 @@ ghost use Rattle.ready_maps.specs.Sched.{is_ready};
 ghost use Rattle.object_grants.specs.Slot.{is_in, is_kind};
 ghost use Rattle.object_grants.specs.Table.{slot};
 ghost use Rattle.object_grants.specs.declared.slot.SlotState.TheVariants.{Free, Empty};
-ghost use Rattle.kernel_state.specs.Kernel.{thread, is_thread, spot, with_spot, module_of, made_thread, placed, removed, removed_thread, blank_kernel, effective_priority, effective_threshold};
+ghost use Rattle.kernel_state.specs.Kernel.{thread, is_thread, spot, with_spot, module_of, made_thread, placed, slot_emptied, removed_thread, blank_kernel, effective_priority, effective_threshold};
 ghost use Rattle.kernel_state.specs.Lending.{LendsThread, LendsHart};
 ghost use Rattle.kernel_state.specs.Sound.{IsSound, IsSpot};
 ghost use Rattle.kernel_state.specs.Thread.{is_state};
@@ -17,12 +17,14 @@ use crate::laws::a_kernel_stays_sound;
 use crate::spot::{Spot, Spots};
 use crate::thread::{Thread, ThreadSpec};
 use crate::threads::Threads;
+use msg_queues::Queues;
 use object_grants::{Objects, SlotState};
 use ready_maps::Ready;
 use rv_core::Hart;
 use soft_timers::{Due, Wheel, calls_keep_the_wheel};
 use std::alloc::Global;
 use suspend_lists::{Waits, calls_keep_the_table};
+use sync_objects::{Semas, calls_keep_the_counts};
 use tx_types::{Kind, ModNo, Name, NoMemory, ObjNo, Prio, State, ThreadNo, Thresh};
 
 /// How many priorities a new kernel has.
@@ -38,6 +40,8 @@ pub struct Kernel {
     pub threads: Threads,
     pub spots: Spots,
     pub waits: Waits,
+    pub queues: Queues,
+    pub semas: Semas,
     pub wheel: Wheel,
     pub clock: u32,
     pub due: Due,
@@ -51,11 +55,15 @@ impl Kernel {
     {
         calls_keep_the_table();
         calls_keep_the_wheel();
+        msg_queues::calls_keep_the_table();
+        calls_keep_the_counts();
         let ready = Ready::new(alloc, PRIORITIES)?;
         let objects = Objects::new(alloc)?;
         let threads = Threads::new(alloc)?;
         let spots = Spots::new(alloc)?;
         let waits = Waits::new(alloc)?;
+        let queues = Queues::new(alloc)?;
+        let semas = Semas::new(alloc)?;
         let wheel = Wheel::new(alloc)?;
         let due = Due::new(alloc)?;
         Ok(Kernel {
@@ -64,6 +72,8 @@ impl Kernel {
             threads,
             spots,
             waits,
+            queues,
+            semas,
             wheel,
             clock: 0,
             due,
@@ -213,10 +223,10 @@ impl Kernel {
         slot.is_in(SlotState::Live) && slot.is_kind(Kind::Thread)
     }
 
-    /// Removes an object of any kind: its grants and its name end, and its slot is Empty.
-    pub fn remove(&mut self, o: ObjNo)
+    /// The slot of an object that ends is Empty, without grants and name.
+    pub(crate) fn empty_slot(&mut self, o: ObjNo)
         requires { is_in Free (slot self.old.objects o) ≡ false }
-        ensures { self.new ≡ removed self.old o }
+        ensures { self.new ≡ slot_emptied self.old o }
     {
         self.objects.make_empty(o);
     }
@@ -230,6 +240,6 @@ impl Kernel {
         let spot = self.spot(m);
         let callback = spot.callback.filter(|u| *u != t);
         self.set_spot(m, Spot { callback, ..spot });
-        self.remove(t);
+        self.empty_slot(t);
     }
 }

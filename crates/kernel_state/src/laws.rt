@@ -4,19 +4,24 @@
 ghost use Rattle.std.specs.Prelude.{ℕ, List};
 ghost use Rattle.tx_types.specs.declared.kind.Kind.{Kind};
 ghost use Rattle.kernel_state.specs.Scheduling.{ReadyChangesOne, UnreadyChangesOne, YieldChangesNone, ThresholdChangesOne, PriorityChangesOne};
+ghost use Rattle.kernel_state.specs.ContentLaws.{WaiterIsOne, NoneWaitForRoom, NoneWaitForInstance, PutKeepsServing, PopKeepsServing, RefillKeepsServing, FlushKeepsServing, CountKeepsServing, QueueMadeKeepsServing, SemaphoreMadeKeepsServing, EmptiedKeepsServing, RemovedKeepsServing};
 ghost use Rattle.kernel_state.specs.Laws.{EffectiveStays, EffectiveFits, SoundFrom, OneThreadChanges, OneStateChanges, OneWaitChanges, OneHartChanges, OneSlotChanges, OneSpotChanges, OneThreadIsMade, OneThreadIsRemoved, RunningIsReady, ReadyIsThread, ThreadIsRight, WaiterHasWait};
-ghost use Rattle.kernel_state.specs.Row.{LeftKeepsTables, AnsweredIsKept, ChangedIsKept, DoneIsKept, WrittenIsKept, UnlessIsKept, FoundIsKept, GivenIsKept, EitherIsKept, RunningCalls};
-ghost use Rattle.kernel_state.specs.WaitLaws.{BeginKeepsSound, WaitEndKeepsSound, TickKeepsServing, BeginRaisesOne, WaitEndRaisesNone, EndRaisesNone, TickRaisesOne, EndKeepsMemory, EndChangesOne, BeginCallsWaits, WaitEndCallsWaits, EndCallsWaits, TickCallsWaits, LeftCallsWaits, FollowedCallsWaits, EndOnlyEnds};
+ghost use Rattle.kernel_state.specs.ObjectLaws.{AllEndedCallsWaits, AllEndedChangesThreads, AllEndedEndsThem, AllEndedKeepsMemory, AllEndedKeepsServing, AllEndedKeepsSound, AllEndedLeavesNone, AllEndedRaisesNone, AllEndedSparesThreads, EmptiedKeepsSound, PrioritizedCallsWaits, PrioritizedChangesOrder, PrioritizedIsKept, PrioritizedKeepsServing, PrioritizedRaisesNone, RemovedCallsWaits, RemovedChangesOne, RemovedEndsThem, RemovedIsKept, RemovedKeepsMemory, RemovedKeepsSound, RemovedRaisesNone, RemovedSparesThreads};
+ghost use Rattle.kernel_state.specs.Results.{UnsatisfiedWriteNone};
+ghost use Rattle.kernel_state.specs.Row.{AnsweredIsKept, BeginIsKept, ChangedIsKept, DoneIsKept, EitherIsKept, FoundIsKept, GivenIsKept, LeftKeepsTables, MoreIsKept, RunningCalls, UnlessIsKept, WaitEndIsKept, WrittenIsKept};
+ghost use Rattle.kernel_state.specs.WaitLaws.{BeginCallsWaits, BeginKeepsServing, BeginKeepsSound, BeginRaisesOne, EndCallsWaits, EndChangesOne, EndKeepsMemory, EndOnlyEnds, EndRaisesNone, FollowedCallsWaits, LeftCallsWaits, PromiseIsKept, PromisesStay, TickCallsWaits, TickKeepsServing, TickRaisesOne, ToFrontKeepsServing, WaitEndCallsWaits, WaitEndKeepsServing, WaitEndKeepsSound, WaitEndRaisesNone};
 ghost use Rattle.kernel_state.specs.ThreadLaws.{ReadyKeepsSound, UnreadyKeepsSound, HeldKeepsSound, FreshKeepsSound, EndKeepsSound, StartKeepsServing, SuspendKeepsServing, EndKeepsServing, ResetKeepsServing};
 
 use flat_ram::a_write_changes_its_range_alone;
+use msg_queues::{a_call_changes_its_queue_alone, what_a_call_leaves_of_its_queue};
 use ready_maps::laws::{a_move_changes_its_thread_alone, moves_keep_the_facts};
 use region_guard::{a_write_changes_its_bytes_alone, what_may_be_used_is_in_ram};
 use soft_timers::{
     a_call_changes_its_own_alone, an_arming_is_over_once, calls_keep_the_wheel,
     each_has_a_tick_left,
 };
-use suspend_lists::calls_keep_the_table;
+use suspend_lists::{calls_keep_the_table, who_waits_at_a_place};
+use sync_objects::{a_call_changes_its_count_alone, calls_keep_the_counts};
 
 /// What each move of the scheduler leaves of its own thread and of the others.
 pub fn a_move_leaves_others_alone()
@@ -85,6 +90,28 @@ pub fn a_wait_keeps_sound()
     calls_keep_the_wheel();
 }
 
+/// The beginning and the end of a wait, and a thread that goes first at its place.
+pub fn a_wait_keeps_serving()
+    ensures begins { BeginKeepsServing }
+    ensures ends { WaitEndKeepsServing }
+    ensures first { ToFrontKeepsServing }
+{
+    a_wait_keeps_sound();
+    a_kernel_stays_sound();
+    a_call_changes_its_own_alone();
+    calls_keep_the_table();
+    calls_keep_the_wheel();
+    each_has_a_tick_left();
+    who_waits_at_a_place();
+}
+
+/// A result may be stored where it was promised, and after each change that leaves the regions of
+/// memory.
+pub fn a_promised_result_may_be_stored()
+    ensures kept { PromiseIsKept }
+    ensures stays { PromisesStay }
+{}
+
 /// A tick.
 pub fn a_tick_keeps_serving()
     ensures { TickKeepsServing }
@@ -121,6 +148,75 @@ pub fn a_change_calls_waits()
 {
     a_wait_keeps_sound();
     calls_keep_the_wheel();
+}
+
+/// The end of all waits for an object leaves nobody who waits for it.
+pub fn all_ends_keep_serving()
+    ensures serves { AllEndedKeepsServing }
+    ensures sound { AllEndedKeepsSound }
+    ensures none { AllEndedLeavesNone }
+{
+    a_wait_keeps_sound();
+    a_wait_keeps_serving();
+    who_waits_at_a_place();
+}
+
+/// The removal of an object, and an order of its waiters.
+pub fn a_removal_keeps_serving()
+    ensures removed { RemovedKeepsServing }
+    ensures sound { RemovedKeepsSound }
+    ensures prioritized { PrioritizedKeepsServing }
+{
+    all_ends_keep_serving();
+    what_is_in_an_object_changes();
+    a_wait_keeps_serving();
+    who_waits_at_a_place();
+}
+
+/// What the end of all waits for an object leaves alone: memory where no wait has a result, each other
+/// thread, and what is in the objects. The waits end by calls of their table, and so as it was said.
+pub fn all_ends_end_waits_alone()
+    ensures calls { AllEndedCallsWaits }
+    ensures them { AllEndedEndsThem }
+    ensures memory { AllEndedKeepsMemory }
+    ensures kernel { AllEndedChangesThreads }
+    ensures threads { AllEndedSparesThreads }
+    ensures counts { AllEndedRaisesNone }
+{
+    a_wait_keeps_sound();
+    a_change_calls_waits();
+    a_change_raises_counts_by_one();
+    who_waits_at_a_place();
+}
+
+/// What the removal of an object leaves alone, and what an order of its waiters does: each is as a row
+/// may change the kernel.
+pub fn a_removal_ends_waits_alone()
+    ensures calls { RemovedCallsWaits }
+    ensures them { RemovedEndsThem }
+    ensures memory { RemovedKeepsMemory }
+    ensures kernel { RemovedChangesOne }
+    ensures threads { RemovedSparesThreads }
+    ensures counts { RemovedRaisesNone }
+    ensures kept { RemovedIsKept }
+{
+    all_ends_end_waits_alone();
+    a_change_calls_waits();
+    a_change_raises_counts_by_one();
+    a_row_is_made_of_parts();
+    who_waits_at_a_place();
+}
+
+/// What an order of the waiters of an object leaves alone: nothing but the order changes.
+pub fn an_order_changes_waits_alone()
+    ensures calls { PrioritizedCallsWaits }
+    ensures order { PrioritizedChangesOrder }
+    ensures counts { PrioritizedRaisesNone }
+    ensures kept { PrioritizedIsKept }
+{
+    a_change_calls_waits();
+    a_row_is_made_of_parts();
+    who_waits_at_a_place();
 }
 
 /// What the end of a thread leaves alone, whether it waits or not.
@@ -169,9 +265,39 @@ pub fn a_row_is_made_of_parts()
     ensures found_kind { FoundIsKept Kind }
     ensures given_name { GivenIsKept (List ℕ) }
     ensures either { EitherIsKept }
+    ensures begins { BeginIsKept }
+    ensures wait_ends { WaitEndIsKept }
+    ensures more { MoreIsKept }
+    ensures unsatisfied { UnsatisfiedWriteNone }
 {
     who_runs_is_a_thread();
+    a_promised_result_may_be_stored();
     a_write_changes_its_range_alone();
     a_write_changes_its_bytes_alone();
     what_may_be_used_is_in_ram();
+}
+
+/// What is known of who waits for an object: whoever stands in its list is a thread that rests and asks
+/// what the object can't give, so nobody waits where it can. And a kernel serves as what is in an object
+/// changes: where a message is put, taken, replaced by the first sender's or flushed, where a semaphore
+/// counts otherwise, and where an object is made, or ends.
+pub fn what_is_in_an_object_changes()
+    ensures waiter { WaiterIsOne }
+    ensures none_for_room { NoneWaitForRoom }
+    ensures none_for_instance { NoneWaitForInstance }
+    ensures put { PutKeepsServing }
+    ensures pop { PopKeepsServing }
+    ensures refill { RefillKeepsServing }
+    ensures flush { FlushKeepsServing }
+    ensures count { CountKeepsServing }
+    ensures queue_made { QueueMadeKeepsServing }
+    ensures semaphore_made { SemaphoreMadeKeepsServing }
+    ensures emptied { EmptiedKeepsServing }
+    ensures emptied_sound { EmptiedKeepsSound }
+{
+    msg_queues::calls_keep_the_table();
+    a_call_changes_its_queue_alone();
+    what_a_call_leaves_of_its_queue();
+    calls_keep_the_counts();
+    a_call_changes_its_count_alone();
 }

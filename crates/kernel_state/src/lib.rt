@@ -10,6 +10,7 @@ mod kernel;
 pub mod laws;
 mod naming;
 mod object_report;
+mod objects;
 mod readying;
 mod registers;
 mod spot;
@@ -22,6 +23,7 @@ mod waiting;
 
 pub use answer::{Answer, Args};
 pub use kernel::Kernel;
+pub use object_report::thread_numbers;
 pub use registers::{arguments, number_asked};
 pub use spot::{Spot, Spots};
 pub use state::{is_over, is_waiting};

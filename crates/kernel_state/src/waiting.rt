@@ -7,9 +7,10 @@ ghost use Rattle.region_guard.specs.Memory.{may};
 ghost use Rattle.ready_maps.specs.Sched.{is_ready};
 ghost use Rattle.soft_timers.specs.Timers.{IsRunning};
 ghost use Rattle.suspend_lists.specs.Waits.{wait_of};
+ghost use Rattle.kernel_state.specs.Contents.{IsAsked};
 ghost use Rattle.kernel_state.specs.Kernel.{module_of};
 ghost use Rattle.kernel_state.specs.Room.{HasRoom};
-ghost use Rattle.kernel_state.specs.Sound.{IsSound, IsWait};
+ghost use Rattle.kernel_state.specs.Sound.{IsSound};
 ghost use Rattle.kernel_state.specs.Waiting.{state_of_ask, wanted_at, is_timed, result_of, with_result, answer_of, with_answer_to, left_wait, released, gone_on, suspended_at_last, wait_begun, wait_ended, MayHaveResult};
 
 use crate::kernel::Kernel;
@@ -111,7 +112,7 @@ impl Kernel {
     pub fn begin_wait(&mut self, t: ThreadNo, w: Wait, ticks: u32)
         requires sound { IsSound self.old }
         requires ready { is_ready self.old.ready t ≡ true }
-        requires wait { IsWait w }
+        requires wait { IsAsked self.old.objects self.old.queues self.old.semas w }
         requires later { 0 < ticks }
         requires room { HasRoom self.old }
         ensures after { self.new ≡ wait_begun self.old t w ticks }

@@ -1,4 +1,5 @@
-use Rattle.kernel_state.proofs.WaitCalls.{begin_calls_waits, wait_end_calls_waits, end_calls_waits, end_only_ends, tick_calls_waits, left_calls_waits, followed_calls_waits}
+use Rattle.kernel_state.proofs.WaitCalls.{begin_calls_waits, wait_end_calls_waits, end_calls_waits, end_only_ends, tick_calls_waits, left_calls_waits}
+use Rattle.kernel_state.proofs.WaitCalls.{followed_calls_waits}
 use Rattle.kernel_state.proofs.laws.a_change_calls_waits.Goals as goal
 
 pub returns : goal.returns

@@ -7,7 +7,11 @@ use Rattle.kernel_state.proofs.kernel.Kernel.advance_clock.Goals as goal
 pub take_turns-requires : goal.take_turns-requires
 take_turns-requires c =
     let serves = c.requires.serves in
-    record { sound = subst IsSound (sym c.count_tick.ensures) (counted_sound c.calls_keep_the_wheel.ensures.ticks c.args.self.now serves.sound serves.running c.requires.room) }
+    record {
+      sound =
+          subst IsSound (sym c.count_tick.ensures)
+          (counted_sound c.calls_keep_the_wheel.ensures.ticks c.args.self.now serves.sound serves.running c.requires.room);
+    }
 
 pub treat_slice-requires : goal.treat_slice-requires
 treat_slice-requires c =

@@ -13,9 +13,12 @@ returns-then-timed-clause-sound c =
     let t = c.args.t in
     let w = c.args.w in
     let live = c.who_runs_is_a_thread.ensures.ready_is_thread k t c.requires.sound c.requires.ready in
-    let table : IsTable (begun k.waits t w) = subst IsTable (c.begin.ensures.after ∙ ap (λ (j : Kernel). begun j.waits t w) c.make_unready.ensures) c.totals.ensures.sound in
+    let table : IsTable (begun k.waits t w) =
+    subst IsTable (c.begin.ensures.after ∙ ap (λ (j : Kernel). begun j.waits t w) c.make_unready.ensures) c.totals.ensures.sound in
     let same : record c.make_unready.new.self { waits = c.begin.new.self; wheel = c.arm.new.self } ≡ wait_begun k t w c.args.ticks = search rules in
-    subst IsSound (sym same) (c.a_wait_keeps_sound.ensures.begins [] k t w c.args.ticks c.requires.sound live c.requires.ready c.requires.wait table c.requires.later c.ranges.ticks.fits)
+    subst IsSound (sym same)
+    (c.a_wait_keeps_sound.ensures.begins [] k t w c.args.ticks c.requires.sound live c.requires.ready c.requires.wait table c.requires.later
+    c.ranges.ticks.fits)
 
 pub returns-then-timed-clause-running : goal.returns-then-timed-clause-running
 returns-then-timed-clause-running c = λ running.
@@ -25,7 +28,8 @@ returns-then-timed-clause-running c = λ running.
     let live = c.who_runs_is_a_thread.ensures.ready_is_thread k t c.requires.sound c.requires.ready in
     let same : record c.make_unready.new.self { waits = c.begin.new.self; wheel = c.arm.new.self } ≡ wait_begun k t w c.args.ticks = search rules in
     subst (λ (j : Kernel). IsRunning j.wheel) (sym same)
-    (begin_keeps_running c.each_has_a_tick_left.ensures.keeps k t w c.args.ticks c.requires.sound live c.requires.ready c.requires.later c.ranges.ticks.fits running)
+    (begin_keeps_running c.each_has_a_tick_left.ensures.keeps k t w c.args.ticks c.requires.sound live c.requires.ready c.requires.later
+    c.ranges.ticks.fits running)
 
 pub returns-else-timed-clause-sound : goal.returns-else-timed-clause-sound
 returns-else-timed-clause-sound c =
@@ -33,6 +37,9 @@ returns-else-timed-clause-sound c =
     let t = c.args.t in
     let w = c.args.w in
     let live = c.who_runs_is_a_thread.ensures.ready_is_thread k t c.requires.sound c.requires.ready in
-    let table : IsTable (begun k.waits t w) = subst IsTable (c.begin.ensures.after ∙ ap (λ (j : Kernel). begun j.waits t w) c.make_unready.ensures) c.totals.ensures.sound in
+    let table : IsTable (begun k.waits t w) =
+    subst IsTable (c.begin.ensures.after ∙ ap (λ (j : Kernel). begun j.waits t w) c.make_unready.ensures) c.totals.ensures.sound in
     let same : record c.make_unready.new.self { waits = c.begin.new.self } ≡ wait_begun k t w c.args.ticks = search rules in
-    subst IsSound (sym same) (c.a_wait_keeps_sound.ensures.begins [] k t w c.args.ticks c.requires.sound live c.requires.ready c.requires.wait table c.requires.later c.ranges.ticks.fits)
+    subst IsSound (sym same)
+    (c.a_wait_keeps_sound.ensures.begins [] k t w c.args.ticks c.requires.sound live c.requires.ready c.requires.wait table c.requires.later
+    c.ranges.ticks.fits)

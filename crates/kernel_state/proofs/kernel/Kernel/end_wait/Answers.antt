@@ -27,7 +27,8 @@ returns-clause-sound c = λ stays.
     let t = c.args.t in
     let e = c.args.e in
     let value = c.args.value.now in
-    let answer : c.answer_of.result ≡ answer_of (wait_of k.waits t) e = c.answer_of.ensures ∙ ap (λ (o : Option Wait). answer_of o e) (sym c.leave_wait-wait.ensures.wait) in
+    let answer : c.answer_of.result ≡ answer_of (wait_of k.waits t) e =
+    c.answer_of.ensures ∙ ap (λ (o : Option Wait). answer_of o e) (sym c.leave_wait-wait.ensures.wait) in
     let answered : c.put_answer.new.self ≡ with_answer_to (left_wait k t e) t (answer_of (wait_of k.waits t) e) =
     c.put_answer.ensures ∙ (ap (λ j. with_answer_to j t c.answer_of.result) c.leave_wait-wait.ensures.after ∙ ap (with_answer_to (left_wait k t e) t) answer) in
     let same : c.release.new.self ≡ (wait_ended k g t e value).kernel = c.release.ensures ∙ ap (λ j. released j t e) answered in

@@ -6,4 +6,5 @@ use Rattle.kernel_state.proofs.kernel.Kernel.named.Goals as goal
 
 pub returns-clause-live : goal.returns-clause-live
 returns-clause-live c =
-    subst (λ (x : Option ℕ). IfSome x (λ o. is_live_of c.args.kind (slot c.args.self.now.objects o) ≡ true)) (sym c.resolve.ensures) (named_is_live c.args.self.now.objects c.new.result c.module_of.result c.args.kind)
+    subst (λ (x : Option ℕ). IfSome x (λ o. is_live_of c.args.kind (slot c.args.self.now.objects o) ≡ true)) (sym c.resolve.ensures)
+    (named_is_live c.args.self.now.objects c.new.result c.module_of.result c.args.kind)

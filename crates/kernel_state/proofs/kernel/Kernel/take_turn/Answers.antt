@@ -22,4 +22,5 @@ returns-then-is_still_armed-clause-kernel c = λ none.
     let d = slice_index_or k.due c.args.i none in
     let is : still k.wheel d ≡ true = sym (c.is_still_armed.ensures none) ∙ c.if-is_still_armed.true in
     c.expire.ensures.kernel
-    ∙ (ap (λ id. (expired k g id).kernel) (c.due_at-id.ensures none) ∙ ap (λ (x : Change). x.kernel) (sym (cond-true (still k.wheel d) (expired k g d.id) (quiet k g) is)))
+    ∙ (ap (λ id. (expired k g id).kernel) (c.due_at-id.ensures none) ∙ ap
+    (λ (x : Change). x.kernel) (sym (cond-true (still k.wheel d) (expired k g d.id) (quiet k g) is)))
