@@ -1,5 +1,6 @@
 -- A change of the kernel keeps the registers of the caller.
-use Rattle.std.proofs.Common.{◌≡◌, ◌≢◌, ℕ, ◌<◌, ◌≤◌, ◌==◌, ◌||◌, Bool, true, false, not, nat_le, List, [], length, Option, None, Some, refl, sym, ap, ◌∙◌, subst, ⊎_elim}
+use Rattle.std.proofs.Common.{◌≡◌, ◌≢◌, ℕ, ◌<◌, ◌≤◌, ◌==◌, ◌||◌, Bool, true, false, not, nat_le, List, [], length, Option, None, Some, refl, sym, ap, ◌∙◌}
+use Rattle.std.proofs.Common.{subst, ⊎_elim}
 use Rattle.std.specs.List.{slice_index_or}
 use Rattle.std.proofs.lemmas.Bool.{and_parts, cases_eq, cases_lt, cond_both, eqb-true, false≢true, not-false}
 use Rattle.std.proofs.lemmas.List.{get_or-set_same, get_or-set_other, set_past}
@@ -83,16 +84,20 @@ reserved_is_empty k by r o found =
     let is_o : slot_of r ≡ o = cc in
     let passes = (and_parts (names k.objects r) (test (slot k.objects (slot_of r))) yes).1 in
     let own = (and_parts (is_own_empty (module_of k by) (slot k.objects (slot_of r))) (is_kind ThreadKind (slot k.objects (slot_of r))) passes).0 in
-    subst (λ n. is_in Empty (slot k.objects n) ≡ true) is_o (and_parts (is_in Empty (slot k.objects (slot_of r))) (owns (module_of k by) (slot k.objects (slot_of r))) own).0)
+    subst (λ n. is_in Empty (slot k.objects n) ≡ true) is_o
+    (and_parts (is_in Empty (slot k.objects (slot_of r))) (owns (module_of k by) (slot k.objects (slot_of r))) own).0)
     (λ no same. cc)
     found
 
 -- a thread that is created isn't the caller, and no byte changes
-pub created_kept : (k : Kernel) (g : Memory) (by r o : ℕ) (name : List ℕ) (b : ThreadBlock) → reserved k by r ThreadKind ≡ Some o → KeepsCaller k by (created k g by o name b).kernel
+pub created_kept : (k : Kernel) (g : Memory) (by r o : ℕ) (name : List ℕ) (b : ThreadBlock) → reserved k by r ThreadKind ≡ Some o
+    → KeepsCaller k by (created k g by o name b).kernel
 unfolding created
 created_kept k g by r o name b found caller =
     let empty = eqb-true (slot_state_number (slot k.objects o).state) 1 (reserved_is_empty k by r o found) in
-    let live = eqb-true (slot_state_number (slot k.objects by).state) 2 (and_parts (is_in Live (slot k.objects by)) (is_kind ThreadKind (slot k.objects by)) caller.live).0 in
+    let live =
+    eqb-true (slot_state_number (slot k.objects by).state) 2
+    (and_parts (is_in Live (slot k.objects by)) (is_kind ThreadKind (slot k.objects by)) caller.live).0 in
     let other : by ≢ o = λ same. false≢true (ap (λ n. n == 1) (sym live ∙ (ap (λ n. slot_state_number (slot k.objects n).state) same ∙ empty))) in
     let now = placed k o name (spec_of k by b) in
     let made = other_kept k by o _ other in

@@ -9,7 +9,8 @@ use Rattle.region_guard.specs.Memory.{Memory}
 use Rattle.thread_calls.specs.Create.{created, spec_of}
 use Rattle.thread_calls.specs.declared.create.ThreadBlock.{ThreadBlock}
 
-pub created-auto : (k : Kernel) (g : Memory) (by o : ℕ) (name : List ℕ) (b : ThreadBlock) → b.auto ≡ 1 → created k g by o name b ≡ started (placed k o name (spec_of k by b)) g o
+pub created-auto : (k : Kernel) (g : Memory) (by o : ℕ) (name : List ℕ) (b : ThreadBlock) → b.auto ≡ 1
+    → created k g by o name b ≡ started (placed k o name (spec_of k by b)) g o
 unfolding created
 created-auto k g by o name b auto =
     let now = placed k o name (spec_of k by b) in cond-true (b.auto == 1) (started now g o) (quiet now g) (eq-eqb b.auto 1 auto)

@@ -5,6 +5,7 @@ pub mod NumberChanges
 pub mod ObjectRows
 pub mod Parts
 pub mod SlotChanges
+pub mod SlotServing
 pub mod Slots
 pub mod Tables
 pub mod ThreadRows

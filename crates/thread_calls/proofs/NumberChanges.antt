@@ -41,7 +41,9 @@ threshold_keeps_sound lower sets k t new sound live at_most =
     let settled = sound.settled t live refl in
     let effective = lower.stays k before t (ap (λ (x : Thread). x.priority) here) in
     let fits = lower.fits before t (subst (λ (x : Thread). x.priority < k.ready.levels) (sym here) was.priority) in
-    let set = sets k.ready t (effective_threshold before t) sound.formed.scheduler (lower.right k t sound live).0 (omega (arith, fits.0, effective.0, settled.priority)) in
+    let set =
+    sets k.ready t (effective_threshold before t) sound.formed.scheduler (lower.right k t sound live).0
+    (omega (arith, fits.0, effective.0, settled.priority)) in
     let after = with_both k t now (threshold_set k.ready t (effective_threshold before t)) in
     let same = lower.stays before after t refl in
     lower.changes [] k t now (threshold_set k.ready t (effective_threshold before t)) sound live refl set.others (record {

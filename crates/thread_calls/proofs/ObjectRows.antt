@@ -20,7 +20,7 @@ use Rattle.thread_calls.proofs.Tables.{slots_alone}
 module _ (parts : Parts) where
   object_allocate_is_row : IsRow (row_to 1 4 0x01 object_allocate_row)
   unfolding object_allocate_row allocation
-  object_allocate_is_row k g by a =
+  object_allocate_is_row k g by a serves runs =
       let m = module_of k by in
       let r = allowed g m (range (arg a 1) 4 ∷ []) in
       parts.found_kind r k g by option_error (kind_of (arg a 0)) _ (λ kind at.
@@ -31,7 +31,7 @@ module _ (parts : Parts) where
 
   object_deallocate_is_row : IsRow (row 0x02 object_deallocate_row)
   unfolding object_deallocate_row
-  object_deallocate_is_row k g by a =
+  object_deallocate_is_row k g by a serves runs =
       let m = module_of k by in
       parts.either [] k g by (names_slot k.objects (arg a 0) (is_own_empty m)) _ _
       (parts.done [] k g by (quiet (record k { objects = after_deallocate k.objects m (arg a 0) }) g) refl (λ calls. refl)
@@ -40,7 +40,7 @@ module _ (parts : Parts) where
 
   object_pointer_get_is_row : IsRow (row_to 2 4 0x03 object_pointer_get_row)
   unfolding object_pointer_get_row granting
-  object_pointer_get_is_row k g by a =
+  object_pointer_get_is_row k g by a serves runs =
       let m = module_of k by in
       let r = allowed g m (range (arg a 2) 4 ∷ []) in
       parts.found_kind r k g by option_error (kind_of (arg a 0)) _ (λ kind at.

@@ -4,7 +4,8 @@ use Rattle.std.proofs.lemmas.Bool.{cond_both}
 use Rattle.std.proofs.lemmas.List.Elements.{All-cons, All-nil}
 use Rattle.tx_types.specs.Code.{success, suspend_lifted}
 use Rattle.tx_types.specs.declared.kind.Kind.{Kind}
-use Rattle.kernel_state.specs.Row.{IsRow, IsNoRefusal, Row, AnsweredIsKept, ChangedIsKept, DoneIsKept, WrittenIsKept, UnlessIsKept, FoundIsKept, GivenIsKept, EitherIsKept}
+use Rattle.kernel_state.specs.Row.{IsRow, IsNoRefusal, Row, AnsweredIsKept, ChangedIsKept, DoneIsKept, WrittenIsKept, UnlessIsKept, FoundIsKept, GivenIsKept}
+use Rattle.kernel_state.specs.Row.{EitherIsKept}
 use Rattle.kernel_state.specs.WaitLaws.{EndChangesOne, EndKeepsMemory}
 use Rattle.kernel_state.specs.declared.answer.Answer.TheVariants.{Code, Value, Ended, Waits}
 use Rattle.thread_calls.specs.ThreadRows.{end_answer}

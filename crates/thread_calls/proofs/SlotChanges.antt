@@ -13,14 +13,14 @@ use Rattle.object_grants.specs.Table.{allocated, allocated_at, after_free, named
 use Rattle.object_grants.specs.declared.slot.Slot.{Slot}
 use Rattle.object_grants.specs.declared.slot.SlotState.{SlotState}
 use Rattle.object_grants.specs.declared.slot.SlotState.TheVariants.{Free, Empty, Live}
-use Rattle.kernel_state.specs.Kernel.{has_thread}
+use Rattle.kernel_state.specs.Kernel.{is_live_of}
 use Rattle.kernel_state.specs.Laws.{OneSlotChanges}
 use Rattle.kernel_state.specs.Sound.{IsSound, IsClean}
 use Rattle.thread_calls.specs.Laws.{AllocateKeepsSound, DeallocateKeepsSound, GrantKeepsSound}
 
--- a slot that is free, or empty, has no thread
-no_thread : (s : Slot) (n : ℕ) → slot_state_number s.state ≡ n → (n == 2) ≡ false → has_thread s ≡ false
-no_thread s n same other = ap (λ m. (m == 2) && is_kind ThreadKind s) same ∙ ap (λ b. b && is_kind ThreadKind s) other
+-- a slot that is free, or empty, has no object
+pub no_object : (s : Slot) (n : ℕ) → slot_state_number s.state ≡ n → (n == 2) ≡ false → (kind : Kind) → is_live_of kind s ≡ false
+no_object s n same other kind = ap (λ m. (m == 2) && is_kind kind s) same ∙ ap (λ b. b && is_kind kind s) other
 
 pub allocate_keeps_sound : OneSlotChanges → AllocateKeepsSound
 allocate_keeps_sound changes k m kind sound = by_place (position is_usable k.objects) refl where
@@ -29,8 +29,9 @@ allocate_keeps_sound changes k m kind sound = by_place (position is_usable k.obj
   by_place (Some o) at =
       let found = position-Some is_usable k.objects o (free_slot 0) at in
       let free = (and_parts (is_in Free (slot k.objects o)) (nat_lt (slot k.objects o).generation last_generation) found.1).0 in
-      let none = no_thread (slot k.objects o) 0 (eqb-true (slot_state_number (slot k.objects o).state) 0 free) refl in
-      changes k o (allocated m kind (slot k.objects o)) sound (omega (arith, found.0, sound.formed.slots)) (refl, refl) (sym none) (λ live. absurd (false≢true (sym none ∙ live)))
+      let none = no_object (slot k.objects o) 0 (eqb-true (slot_state_number (slot k.objects o).state) 0 free) refl in
+      changes k o (allocated m kind (slot k.objects o)) sound (omega (arith, found.0, sound.formed.slots)) (refl, refl) (λ other. sym (none other))
+      (λ live. absurd (false≢true (sym (none ThreadKind) ∙ live)))
 
 pub deallocate_keeps_sound : OneSlotChanges → DeallocateKeepsSound
 deallocate_keeps_sound changes k m r sound =
@@ -39,8 +40,9 @@ deallocate_keeps_sound changes k m r sound =
     (λ names_it.
     let own = (and_parts (names k.objects r) (is_own_empty m (slot k.objects o)) names_it).1 in
     let empty = (and_parts (is_in Empty (slot k.objects o)) (owns m (slot k.objects o)) own).0 in
-    let none = no_thread (slot k.objects o) 1 (eqb-true (slot_state_number (slot k.objects o).state) 1 empty) refl in
-    changes k o (free_slot (slot k.objects o).generation) sound (mod-lt r (omega arith)) (refl, refl, refl) (sym none) (λ live. absurd (false≢true (sym none ∙ live))))
+    let none = no_object (slot k.objects o) 1 (eqb-true (slot_state_number (slot k.objects o).state) 1 empty) refl in
+    changes k o (free_slot (slot k.objects o).generation) sound (mod-lt r (omega arith)) (refl, refl, refl) (λ kind. sym (none kind))
+    (λ live. absurd (false≢true (sym (none ThreadKind) ∙ live))))
     (λ refused. sound)
 
 -- a Live slot's name stays clean whatever it grants
@@ -54,8 +56,12 @@ still_clean s grants live clean = by_state s.state live clean where
 pub grant_keeps_sound : OneSlotChanges → GrantKeepsSound
 grant_keeps_sound changes k m o sound live =
     let s = slot k.objects o in
-    let below : o < 256 = ⊎_elim (λ below. below) (λ past. absurd (false≢true (sym (ap (is_in Live) (get_or_past k.objects o (free_slot 0) (omega (arith, sound.formed.slots)))) ∙ live))) (cases_lt o 256) in
-    changes k o (record s { grants = bit_or s.grants (2 ^ m) }) sound below (still_clean s (bit_or s.grants (2 ^ m)) live (sound.formed.clean o below)) refl (λ is_one. refl)
+    let below : o < 256 =
+    ⊎_elim (λ below. below)
+    (λ past. absurd (false≢true (sym (ap (is_in Live) (get_or_past k.objects o (free_slot 0) (omega (arith, sound.formed.slots)))) ∙ live)))
+    (cases_lt o 256) in
+    changes k o (record s { grants = bit_or s.grants (2 ^ m) }) sound below
+    (still_clean s (bit_or s.grants (2 ^ m)) live (sound.formed.clean o below)) (λ kind. refl) (λ is_one. refl)
 
 -- an object that is found by its name is Live
 pub found_is_live : (slots : List Slot) (kind : Kind) (name : List ℕ) (o : ℕ) → position (has_name kind name) slots ≡ Some o → is_in Live (slot slots o) ≡ true

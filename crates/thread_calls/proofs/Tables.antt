@@ -37,13 +37,16 @@ pub record TableLaws : Type 0 where
   pub waiter : WaiterHasWait
 
 -- a change that leaves waits and timeouts, and one that leaves slots too
-pub slots_alone : TableLaws → (k now : Kernel) (g : Memory) (by : ℕ) → now.waits ≡ k.waits → now.wheel ≡ k.wheel → KeepsSlots k by now → KeepsTables k by (quiet now g)
+pub slots_alone : TableLaws → (k now : Kernel) (g : Memory) (by : ℕ) → now.waits ≡ k.waits → now.wheel ≡ k.wheel → KeepsSlots k by now
+    → KeepsTables k by (quiet now g)
 slots_alone laws k now g by waits wheel slots = laws.left k by (quiet now g) (record { waits = waits; wheel = wheel; ends = refl }) slots
 
-pub tables_stay : TableLaws → (k now : Kernel) (g : Memory) (by : ℕ) → now.waits ≡ k.waits → now.wheel ≡ k.wheel → now.objects ≡ k.objects → KeepsTables k by (quiet now g)
+pub tables_stay : TableLaws → (k now : Kernel) (g : Memory) (by : ℕ) → now.waits ≡ k.waits → now.wheel ≡ k.wheel → now.objects ≡ k.objects
+    → KeepsTables k by (quiet now g)
 tables_stay laws k now g by waits wheel objects = slots_alone laws k now g by waits wheel (slots_stay k now by objects)
 
-by_suspension : (k : Kernel) (g : Memory) (t : ℕ) (P : Kernel → Type 0) → P (made_unready k t Suspended) → P (with_held k t true) → P k → P (suspended k g t).kernel
+by_suspension : (k : Kernel) (g : Memory) (t : ℕ) (P : Kernel → Type 0) → P (made_unready k t Suspended) → P (with_held k t true) → P k
+    → P (suspended k g t).kernel
 by_suspension k g t P unready held same =
     cond_both (is_state (thread k t).state Ready) (made_unready k t Suspended) _ P (λ _. unready)
     (λ _. cond_both (is_waiting (thread k t).state) (with_held k t true) k P (λ _. held) (λ _. same))

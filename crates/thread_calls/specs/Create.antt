@@ -1,5 +1,6 @@
 -- The block of words that describes a thread to be created, and the thread that is made of it.
-use Rattle.std.specs.Prelude.{ℕ, ◌+◌, ◌*◌, ◌/◌, ◌%◌, ◌^◌, ◌==◌, List, nat_le, nat_lt, Option, slice_set, replicate, if◌then◌else◌}
+use Rattle.std.specs.Prelude.{ℕ, ◌+◌, ◌*◌, ◌/◌, ◌%◌, ◌^◌, ◌==◌, List, nat_le, nat_lt, Option}
+use Rattle.std.specs.Prelude.{slice_set, replicate, if◌then◌else◌}
 use Rattle.std.specs.Option.{option_or}
 use Rattle.tx_types.specs.Code.{size_error, priority_error, thresh_error, start_error}
 use Rattle.call_arguments.specs.Words.{nth_word}
@@ -39,8 +40,8 @@ block_refusal k g by b =
     (option_or (refused (nat_lt b.priority b.threshold) thresh_error)
     (refused (nat_lt 1 b.auto) start_error)))))
 
--- pc at the module's shell entry; sp the top of the stack, gp the module's data base, a0 the entry, a1
--- the input, all else 0
+-- pc at the module's shell entry; sp the top of the stack, gp the module's data base, a0 the entry,
+-- a1 the input, all else 0
 abbrev pub opening : Kernel → ℕ → ThreadBlock → HartState
 opening k m b = record {
   pc = (spot k m).shell;
@@ -60,4 +61,5 @@ spec_of k by b = record {
 -- the thread is made in slot o, and started where `auto` says so
 unfoldable pub created : Kernel → Memory → ℕ → ℕ → List ℕ → ThreadBlock → Change
 created k g by o name b =
-    let now = placed k o name (spec_of k by b) in if b.auto == 1 then started now g o else quiet now g
+    let now = placed k o name (spec_of k by b) in
+    if b.auto == 1 then started now g o else quiet now g

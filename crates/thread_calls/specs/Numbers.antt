@@ -15,7 +15,9 @@ with_user_threshold k t new =
 abbrev pub with_user_priority : Kernel → ℕ → ℕ → Kernel
 with_user_priority k t new =
     let now = with_thread k t (record (thread k t) { priority = new; threshold = new }) in
-    record now { ready = priority_set k.ready t (effective_priority now t) (effective_threshold now t) }
+    record now {
+      ready = priority_set k.ready t (effective_priority now t) (effective_threshold now t);
+    }
 
 abbrev pub with_slice : Kernel → ℕ → ℕ → Kernel
 with_slice k t new = with_thread k t (record (thread k t) { slice = new; left = new })
@@ -23,5 +25,6 @@ with_slice k t new = with_thread k t (record (thread k t) { slice = new; left = 
 -- what is read of a thread
 abbrev pub thread_info : Kernel → ℕ → List ℕ
 thread_info k t =
-    state_number (thread k t).state ∷ flag (thread k t).held ∷ (thread k t).priority ∷ (thread k t).threshold
+    state_number (thread k t).state ∷ flag (thread k t).held ∷ (thread k t).priority
+    ∷ (thread k t).threshold
     ∷ effective_priority k t ∷ effective_threshold k t ∷ (thread k t).slice ∷ (thread k t).left ∷ []

@@ -1,6 +1,9 @@
--- The thread services, a row each: the refusals from left to right, then the change (ThreadX User Guide, "Thread Services").
+-- The thread services, a row each: the refusals from left to right, then the change (ThreadX User
+-- Guide, "Thread Services").
 use Rattle.std.specs.Prelude.{ℕ, ◌==◌, false, not, nat_le, nat_lt, List, [], ◌∷◌, if◌then◌else◌}
-use Rattle.tx_types.specs.Code.{success, thread_error, priority_error, delete_error, resume_error, suspend_error, thresh_error, suspend_lifted, wait_abort_error, not_done}
+use Rattle.tx_types.specs.Code.{success, thread_error, priority_error, delete_error, resume_error}
+use Rattle.tx_types.specs.Code.{suspend_error, thresh_error, suspend_lifted, wait_abort_error}
+use Rattle.tx_types.specs.Code.{not_done}
 use Rattle.tx_types.specs.declared.kind.Kind.TheVariants.{Thread}
 use Rattle.tx_types.specs.declared.state.State.TheVariants.{Completed, Terminated, Suspended}
 use Rattle.call_arguments.specs.Names.{name_at}
@@ -15,7 +18,8 @@ use Rattle.suspend_lists.specs.declared.wait.Wait.{Wait}
 use Rattle.tx_types.specs.declared.waits.End.TheVariants.{Aborted}
 use Rattle.kernel_state.specs.Kernel.{thread, module_of, removed_thread, effective_priority}
 use Rattle.kernel_state.specs.Change.{quiet}
-use Rattle.kernel_state.specs.Outcome.{Outcome, answering, answered, done, unless, found, given, refused}
+use Rattle.kernel_state.specs.Outcome.{Outcome, answering, answered, done, unless, found, given}
+use Rattle.kernel_state.specs.Outcome.{refused}
 use Rattle.kernel_state.specs.Registers.{arg}
 use Rattle.kernel_state.specs.Row.{Row, row, row_to}
 use Rattle.kernel_state.specs.Tests.{named, reserved, owner_refusal, caller_refusal}
@@ -27,7 +31,8 @@ use Rattle.kernel_state.specs.declared.answer.Answer.{Answer}
 use Rattle.kernel_state.specs.declared.answer.Answer.TheVariants.{Code}
 use Rattle.kernel_state.specs.declared.kernel.Kernel.{Kernel}
 use Rattle.thread_calls.specs.Create.{block_at, block_refusal, created}
-use Rattle.thread_calls.specs.Numbers.{with_user_threshold, with_user_priority, with_slice, thread_info}
+use Rattle.thread_calls.specs.Numbers.{with_user_threshold, with_user_priority, with_slice}
+use Rattle.thread_calls.specs.Numbers.{thread_info}
 
 -- the caller's own thread, or another one, ends; who ends itself gets no answer
 abbrev pub end_answer : ℕ → ℕ → Answer
@@ -48,11 +53,13 @@ unfoldable pub thread_delete_row : Kernel → Memory → ℕ → List ℕ → Ou
 thread_delete_row k g by a =
     found k g thread_error (named k by (arg a 0) Thread) (λ t.
     unless k g (owner_refusal k by t)
-    (unless k g (refused (not (is_over (thread k t).state)) delete_error) (done (quiet (removed_thread k t) g))))
+    (unless k g (refused (not (is_over (thread k t).state)) delete_error)
+    (done (quiet (removed_thread k t) g))))
 
 unfoldable pub thread_terminate_row : Kernel → Memory → ℕ → List ℕ → Outcome
 thread_terminate_row k g by a =
-    found k g thread_error (named k by (arg a 0) Thread) (λ t. answering (ended k g t Terminated) (end_answer by t))
+    found k g thread_error (named k by (arg a 0) Thread)
+    (λ t. answering (ended k g t Terminated) (end_answer by t))
 
 unfoldable pub thread_suspend_row : Kernel → Memory → ℕ → List ℕ → Outcome
 thread_suspend_row k g by a =
@@ -61,11 +68,14 @@ thread_suspend_row k g by a =
 
 -- a suspended thread is started
 unfoldable pub starting : Kernel → Memory → ℕ → Outcome
-starting k g t = unless k g (refused (not (is_state (thread k t).state Suspended)) resume_error) (done (started k g t))
+starting k g t =
+    unless k g (refused (not (is_state (thread k t).state Suspended)) resume_error)
+    (done (started k g t))
 
 -- a suspension that is held is lifted; else a suspended thread is started
 unfoldable pub resumption : Kernel → Memory → ℕ → Outcome
-resumption k g t = if (thread k t).held then answered (with_held k t false) g suspend_lifted else starting k g t
+resumption k g t =
+    if (thread k t).held then answered (with_held k t false) g suspend_lifted else starting k g t
 
 unfoldable pub thread_resume_row : Kernel → Memory → ℕ → List ℕ → Outcome
 thread_resume_row k g by a = found k g thread_error (named k by (arg a 0) Thread) (resumption k g)
@@ -79,7 +89,8 @@ thread_identify_row k g by a = answering (quiet k g) (Value (ref_of k.objects by
 unfoldable pub thread_info_get_row : Kernel → Memory → ℕ → List ℕ → Outcome
 thread_info_get_row k g by a =
     found k g thread_error (named k by (arg a 0) Thread) (λ t.
-    unless k g (caller_refusal k g by Store (arg a 1) 32) (done (quiet k (with_words g (arg a 1) (thread_info k t)))))
+    unless k g (caller_refusal k g by Store (arg a 1) 32)
+    (done (quiet k (with_words g (arg a 1) (thread_info k t)))))
 
 -- a number of a thread is changed, and the old one written
 unfoldable pub threshold_change : Kernel → Memory → ℕ → ℕ → ℕ → Outcome
@@ -99,12 +110,14 @@ slice_change k g t new old =
 unfoldable pub thread_preemption_change_row : Kernel → Memory → ℕ → List ℕ → Outcome
 thread_preemption_change_row k g by a =
     found k g thread_error (named k by (arg a 0) Thread) (λ t.
-    unless k g (caller_refusal k g by Store (arg a 2) 4) (threshold_change k g t (arg a 1) (arg a 2)))
+    unless k g (caller_refusal k g by Store (arg a 2) 4)
+    (threshold_change k g t (arg a 1) (arg a 2)))
 
 unfoldable pub thread_priority_change_row : Kernel → Memory → ℕ → List ℕ → Outcome
 thread_priority_change_row k g by a =
     found k g thread_error (named k by (arg a 0) Thread) (λ t.
-    unless k g (caller_refusal k g by Store (arg a 2) 4) (priority_change k g t (arg a 1) (arg a 2)))
+    unless k g (caller_refusal k g by Store (arg a 2) 4)
+    (priority_change k g t (arg a 1) (arg a 2)))
 
 unfoldable pub thread_time_slice_change_row : Kernel → Memory → ℕ → List ℕ → Outcome
 thread_time_slice_change_row k g by a =

@@ -11,8 +11,9 @@ ghost use Rattle.kernel_state.specs.Kernel.{module_of};
 ghost use Rattle.kernel_state.specs.Serves.{Serves};
 ghost use Rattle.thread_calls.specs.ObjectRows.{allocation, granting, object_allocate_row, object_deallocate_row, object_pointer_get_row};
 
-use crate::laws::a_change_of_slots_keeps_sound;
+use crate::laws::a_change_of_slots_keeps_serving;
 use call_arguments::{name_at, put_word};
+use kernel_state::laws::a_promised_result_may_be_stored;
 use kernel_state::{Answer, Args, Kernel};
 use region_guard::{Access, Guard};
 use tx_types::{Code, Kind, ObjNo, ObjRef, ThreadNo};
@@ -47,7 +48,8 @@ fn allocate(k: &mut Kernel, g: &mut Guard, by: ThreadNo, kind: Kind, to: u32) ->
     ensures answer { result ≡ (allocation k.old g.old by kind to).answer }
     ensures serves { Serves k.new g.new }
 {
-    a_change_of_slots_keeps_sound();
+    a_promised_result_may_be_stored();
+    a_change_of_slots_keeps_serving();
     let m = k.module_of(by);
     match k.objects.allocate(m, kind) {
         Some(r) => {
@@ -69,7 +71,7 @@ pub fn object_deallocate(k: &mut Kernel, g: &mut Guard, by: ThreadNo, a: &Args) 
     ensures answer { result ≡ (object_deallocate_row k.old g.old by a.now).answer }
     ensures serves { Serves k.new g.new }
 {
-    a_change_of_slots_keeps_sound();
+    a_change_of_slots_keeps_serving();
     let m = k.module_of(by);
     if k.objects.deallocate(m, ObjRef::new(a[0])) {
         Answer::Code(Code::SUCCESS)
@@ -117,7 +119,8 @@ fn grant(k: &mut Kernel, g: &mut Guard, by: ThreadNo, o: ObjNo, to: u32) -> Answ
     ensures answer { result ≡ (granting k.old g.old by o to).answer }
     ensures serves { Serves k.new g.new }
 {
-    a_change_of_slots_keeps_sound();
+    a_promised_result_may_be_stored();
+    a_change_of_slots_keeps_serving();
     let m = k.module_of(by);
     let r = k.objects.ref_of(o);
     k.objects.grant(m, o);

@@ -6,9 +6,9 @@ ghost use Rattle.std.specs.Prelude.{◌≡◌, Some, true};
 ghost use Rattle.kernel_state.specs.Serves.{Serves};
 ghost use Rattle.thread_calls.specs.ThreadRows.{thread_delete_row, thread_terminate_row, thread_suspend_row, thread_resume_row, thread_relinquish_row, thread_identify_row, thread_reset_row, thread_complete_row};
 
-use crate::laws::a_change_of_numbers_keeps_sound;
+use crate::laws::{a_change_of_numbers_keeps_sound, a_change_of_slots_keeps_serving};
 use crate::resuming::resume_object;
-use kernel_state::laws::{a_kernel_stays_sound, who_runs_is_a_thread};
+use kernel_state::laws::who_runs_is_a_thread;
 use kernel_state::{Answer, Args, Kernel, end_thread, is_over, reset_thread, suspend_thread};
 use region_guard::Guard;
 use tx_types::{Code, Kind, State, ThreadNo};
@@ -117,7 +117,7 @@ pub fn thread_delete(k: &mut Kernel, g: &mut Guard, by: ThreadNo, a: &Args) -> A
     ensures answer { result ≡ (thread_delete_row k.old g.old by a.now).answer }
     ensures serves { Serves k.new g.new }
 {
-    a_kernel_stays_sound();
+    a_change_of_slots_keeps_serving();
     let Some(t) = k.named(by, a[0], Kind::Thread) else {
         return Answer::Code(Code::THREAD_ERROR);
     };

@@ -2,12 +2,12 @@
 //!
 //! A refused call changes nothing. A caller that sleeps gets its answer at the end of its wait.
 ghost use Rattle.std.specs.Prelude.{◌≡◌, Some};
+ghost use Rattle.kernel_state.specs.Contents.{IsAsked};
 ghost use Rattle.kernel_state.specs.Room.{HasRoom};
 ghost use Rattle.kernel_state.specs.Serves.{Serves};
-ghost use Rattle.kernel_state.specs.Sound.{IsWait};
 ghost use Rattle.thread_calls.specs.ThreadRows.{sleep_of, thread_sleep_row, thread_wait_abort_row};
 
-use kernel_state::laws::who_runs_is_a_thread;
+use kernel_state::laws::{a_wait_keeps_serving, who_runs_is_a_thread};
 use kernel_state::{Answer, Args, Kernel, is_waiting};
 use region_guard::Guard;
 use suspend_lists::{Asks, On, Wait};
@@ -37,7 +37,7 @@ pub fn thread_sleep(k: &mut Kernel, g: &mut Guard, by: ThreadNo, a: &Args) -> An
 /// The sleep of a caller: as its time is up, it answers SUCCESS.
 fn sleep_of(k: &Kernel, by: ThreadNo) -> Wait
     ensures value { result ≡ sleep_of k.now by }
-    ensures right { IsWait result }
+    ensures right { IsAsked k.now.objects k.now.queues k.now.semas result }
 {
     Wait {
         on: On::Sleep,
@@ -58,6 +58,8 @@ pub fn thread_wait_abort(k: &mut Kernel, g: &mut Guard, by: ThreadNo, a: &Args) 
     ensures answer { result ≡ (thread_wait_abort_row k.old g.old by a.now).answer }
     ensures serves { Serves k.new g.new }
 {
+    a_wait_keeps_serving();
+    who_runs_is_a_thread();
     let Some(t) = k.named(by, a[0], Kind::Thread) else {
         return Answer::Code(Code::THREAD_ERROR);
     };

@@ -11,4 +11,5 @@ returns-then-b-eq1-clause-kernel c =
     let g = c.args.g.now in
     let placed_by = c.place_thread.ensures.after ∙ ap (placed k c.args.o c.args.name) c.spec_of-spec.ensures in
     c.start_thread.ensures.kernel
-    ∙ (ap (λ now. (started now g c.args.o).kernel) placed_by ∙ ap (λ (x : Change). x.kernel) (sym (created-auto k g c.args.by c.args.o c.args.name c.args.b.now c.if-b-eq1.true)))
+    ∙ (ap (λ now. (started now g c.args.o).kernel) placed_by ∙ ap
+    (λ (x : Change). x.kernel) (sym (created-auto k g c.args.by c.args.o c.args.name c.args.b.now c.if-b-eq1.true)))

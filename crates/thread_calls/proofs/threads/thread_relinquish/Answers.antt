@@ -10,4 +10,8 @@ returns-clause-serves c =
     let ready = who.running_is_ready k by sound c.requires.runs in
     let live = who.ready_is_thread k by sound ready in
     let some = subst IsSome (sym c.requires.runs) refl in
-    record { sound = rw c.yield_run.ensures.after (c.a_change_of_numbers_keeps_sound.ensures.yields k by sound live some); running = c.requires.serves.running }
+    record {
+      sound = rw c.yield_run.ensures.after (c.a_change_of_numbers_keeps_sound.ensures.yields k by sound live some);
+      running = c.requires.serves.running;
+      promised = c.requires.serves.promised;
+    }
