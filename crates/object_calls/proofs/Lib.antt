@@ -1,0 +1,13 @@
+pub mod Below
+pub mod EachMessage
+pub mod EachQueue
+pub mod EachRow
+pub mod EachSema
+pub mod FirstWaiter
+pub mod Parts
+pub mod QueueSizes
+pub mod Receiving
+pub mod SenderEnds
+pub mod Senders
+pub mod Used
+pub mod Written

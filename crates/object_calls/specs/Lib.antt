@@ -1,0 +1,3 @@
+pub mod QueueRows
+pub mod SemaRows
+pub mod Services
