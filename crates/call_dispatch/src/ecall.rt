@@ -42,7 +42,6 @@ fn put_answer(k: &mut Kernel, t: ThreadNo, answer: Answer)
     requires sound { IsSound k.old }
     ensures after { k.new ≡ with_answer k.old t answer }
     ensures sound { IsSound k.new }
-    ensures wheel { k.new.wheel ≡ k.old.wheel }
 {
     match answer {
         Answer::Code(code) => k.set_a0(t, u32::from(code.number())),

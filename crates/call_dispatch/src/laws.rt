@@ -1,11 +1,11 @@
-//! What holds of every call, whatever it asks for: each function's contract is a law.
+//! What holds of every call of the running thread, whatever it asks for: each function's contract is a
+//! law.
 //!
 //! Their bodies do nothing; a function calls one where its proof needs the law.
 ghost use Rattle.call_dispatch.specs.Caller.{CallChangesA0Alone};
-ghost use Rattle.call_dispatch.specs.Laws.{NumberNamesItsRow, RowHasItsNumber, CallWritesItsResultAlone, RefusalChangesNothing, RefusedCallChangesA0Alone, NoRowChangesA0Alone, CallChangesSlotsOnce, CallRaisesCountsByOne, CallCallsWaits};
+ghost use Rattle.call_dispatch.specs.Laws.{NumberNamesItsRow, RowHasItsNumber, CallIsKept, CallWritesResultsAlone, RefusalChangesNothing, RefusedCallChangesA0Alone, NoRowChangesA0Alone, CallChangesSlotsOnce, CallRaisesCountsByOne, CallCallsWaits};
 
 use kernel_state::laws::a_row_is_made_of_parts;
-use thread_calls::laws::each_row_is_one;
 
 /// Each service has one number, which is no other's.
 pub fn a_service_has_one_number()
@@ -13,13 +13,22 @@ pub fn a_service_has_one_number()
     ensures has { RowHasItsNumber }
 {}
 
-/// A call changes no byte of memory outside of the ranges that its row names for its result, and none
-/// of these where the caller's module may not store there.
-pub fn a_call_writes_its_result_alone()
-    ensures { CallWritesItsResultAlone }
+/// A call keeps what each row keeps, in whichever crate its row is.
+fn a_call_is_kept()
+    ensures { CallIsKept }
 {
     a_row_is_made_of_parts();
-    each_row_is_one();
+    thread_calls::laws::each_row_is_one();
+    object_calls::laws::each_row_is_one();
+}
+
+/// A call changes no byte of memory outside of the ranges that its row names for its result and of the
+/// results of the waits that it ends as satisfied, and none of its own where the caller's module may
+/// not store there.
+pub fn a_call_writes_results_alone()
+    ensures { CallWritesResultsAlone }
+{
+    a_call_is_kept();
 }
 
 /// A call that is refused changes the a0 of its caller and nothing else: where its status is neither
@@ -29,16 +38,15 @@ pub fn a_refused_call_changes_its_a0_alone()
     ensures refused { RefusedCallChangesA0Alone }
     ensures no_row { NoRowChangesA0Alone }
 {
-    a_row_is_made_of_parts();
-    each_row_is_one();
+    a_call_is_kept();
 }
 
 /// A call changes no register of its caller but a0, whatever it asks for.
 pub fn a_call_changes_its_a0_alone()
     ensures { CallChangesA0Alone }
 {
+    a_call_is_kept();
     a_row_is_made_of_parts();
-    each_row_is_one();
 }
 
 /// A call changes object slots by one call of their table at most, which is made for the caller's
@@ -46,16 +54,14 @@ pub fn a_call_changes_its_a0_alone()
 pub fn a_call_changes_slots_once()
     ensures { CallChangesSlotsOnce }
 {
-    a_row_is_made_of_parts();
-    each_row_is_one();
+    a_call_is_kept();
 }
 
 /// A call begins one wait at most and arms one timeout at most, and no tick comes with it.
 pub fn a_call_raises_counts_by_one()
     ensures { CallRaisesCountsByOne }
 {
-    a_row_is_made_of_parts();
-    each_row_is_one();
+    a_call_is_kept();
 }
 
 /// A call changes the waits by calls of their table alone, each of which may be made in its turn, and
@@ -63,6 +69,6 @@ pub fn a_call_raises_counts_by_one()
 pub fn a_call_calls_waits()
     ensures { CallCallsWaits }
 {
+    a_call_is_kept();
     a_row_is_made_of_parts();
-    each_row_is_one();
 }

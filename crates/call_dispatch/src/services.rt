@@ -8,7 +8,6 @@ ghost use Rattle.call_dispatch.specs.Services.{call_row};
 
 use kernel_state::{Answer, Args, Kernel};
 use region_guard::Guard;
-use thread_calls::serve;
 use tx_types::{Code, ThreadNo};
 
 /// Calls the service of a number. FEATURE_NOT_ENABLED comes where the number has no row, and then
@@ -23,5 +22,11 @@ pub(crate) fn call(k: &mut Kernel, g: &mut Guard, by: ThreadNo, number: u32, a: 
     ensures answer { result ≡ (call_row number k.old g.old by a.now).answer }
     ensures serves { Serves k.new g.new }
 {
-    serve(number, k, g, by, a).unwrap_or(Answer::Code(Code::FEATURE_NOT_ENABLED))
+    if let Some(answer) = thread_calls::serve(number, k, g, by, a) {
+        return answer;
+    }
+    if let Some(answer) = object_calls::serve(number, k, g, by, a) {
+        return answer;
+    }
+    Answer::Code(Code::FEATURE_NOT_ENABLED)
 }

@@ -1,11 +1,5 @@
-use Rattle.call_dispatch.proofs.Calls.{Lower, call_changes_slots_once}
+use Rattle.call_dispatch.proofs.Calls.{call_changes_slots_once}
 use Rattle.call_dispatch.proofs.laws.a_call_changes_slots_once.Goals as goal
 
 pub returns : goal.returns
-returns c =
-    let lower : Lower = record {
-      answered = c.a_row_is_made_of_parts.ensures.answered;
-      calls = c.a_row_is_made_of_parts.ensures.calls;
-      each = c.each_row_is_one.ensures;
-    } in
-    call_changes_slots_once lower
+returns c = call_changes_slots_once c.a_call_is_kept.ensures
