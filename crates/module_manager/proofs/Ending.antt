@@ -8,7 +8,7 @@ use Rattle.object_grants.specs.Table.{slot}
 use Rattle.object_grants.specs.declared.slot.Slot.{Slot}
 use Rattle.ready_maps.specs.Sched.{Sched}
 use Rattle.region_guard.specs.Memory.{Memory}
-use Rattle.soft_timers.specs.Timers.{IsRunning, TimerTable}
+use Rattle.soft_timers.specs.Timers.{TimerTable}
 use Rattle.suspend_lists.specs.Waits.{WaitTable}
 use Rattle.kernel_state.specs.Change.{Change, quiet}
 use Rattle.kernel_state.specs.Kernel.{thread, has_thread, is_thread, module_of}
@@ -21,8 +21,8 @@ use Rattle.kernel_state.specs.ThreadLaws.{EndKeepsServing, EndKeepsSound}
 use Rattle.kernel_state.specs.WaitLaws.{EndChangesOne, EndKeepsMemory, with_waits}
 use Rattle.kernel_state.specs.declared.kernel.Kernel.{Kernel}
 use Rattle.kernel_state.specs.declared.thread.Thread.{Thread}
-use Rattle.module_manager.specs.Halt.{ending, threads_ended}
-use Rattle.module_manager.proofs.Folds.{for_each_slot_keeps, for_each_slot_memory}
+use Rattle.module_manager.specs.Halt.{AreOver, ending, threads_ended}
+use Rattle.module_manager.proofs.Folds.{for_each_slot_both, for_each_slot_keeps, for_each_slot_memory}
 
 -- what is a thread has a number below 256
 pub below_256 : (k : Kernel) (t : ℕ) → IsSound k → is_thread k t ≡ true → t < 256
@@ -66,7 +66,8 @@ ending-other ends m k g t u other =
     (λ _ _ _ _ _. get_or-set_other k.threads t u (terminated k t) blank_thread other)
 
 -- a thread of the module is over then
-pub ending-over : Ends → (m : ℕ) (k : Kernel) (g : Memory) (t : ℕ) → IsSound k → is_thread k t ≡ true → module_of k t ≡ m → is_over (thread (ending m k g t).kernel t).state ≡ true
+pub ending-over : Ends → (m : ℕ) (k : Kernel) (g : Memory) (t : ℕ) → IsSound k → is_thread k t ≡ true → module_of k t ≡ m
+    → is_over (thread (ending m k g t).kernel t).state ≡ true
 ending-over ends m k g t sound live own =
     let below = below_256 k t sound live in
     by_ending ends m k g t (λ j. is_over (thread j t).state ≡ true)
@@ -96,14 +97,11 @@ ending-serves ends m k g t serves =
 -- no byte changes
 pub ending-memory : Ends → (m : ℕ) (k : Kernel) (g : Memory) (t : ℕ) → (ending m k g t).memory ≡ g
 ending-memory ends m k g t =
-    cond_both (is_thread k t && (module_of k t == m)) (ended k g t Terminated) (quiet k g) (λ (c : Change). c.memory ≡ g) (λ _. ends.memory k g t Terminated) (λ _. refl)
+    cond_both (is_thread k t && (module_of k t == m)) (ended k g t Terminated) (quiet k g)
+    (λ (c : Change). c.memory ≡ g) (λ _. ends.memory k g t Terminated) (λ _. refl)
 
 pub threads_ended-memory : Ends → (k : Kernel) (g : Memory) (m : ℕ) → (threads_ended k g m).memory ≡ g
 threads_ended-memory ends k g m = for_each_slot_memory (ending m) (ending-memory ends m) k g
-
--- no thread of the module goes on
-abbrev pub AreOver : Kernel → ℕ → Type 0
-AreOver k m = (t : ℕ) → is_thread k t ≡ true → module_of k t ≡ m → is_over (thread k t).state ≡ true
 
 -- of the threads of smaller numbers, those of the module are over
 abbrev AreOverBelow : ℕ → ℕ → Kernel → Type 0
@@ -118,17 +116,14 @@ one_more_over ends m n k g sound below_n t below live own =
     (λ (other : t ≢ n). subst (λ (x : Thread). is_over x.state ≡ true) (sym (ending-other ends m k g n t other)) (below_n t (omega arith) was_live was_own))
     (cases_eq t n)
 
-pub threads_ended-sound-over : Ends → (m : ℕ) (k : Kernel) (g : Memory) → IsSound k → IsSound (threads_ended k g m).kernel × AreOver (threads_ended k g m).kernel m
+pub threads_ended-sound-over : Ends → (m : ℕ) (k : Kernel) (g : Memory) → IsSound k
+    → IsSound (threads_ended k g m).kernel × AreOver (threads_ended k g m).kernel m
 threads_ended-sound-over ends m k g sound =
     let now = (threads_ended k g m).kernel in
     let all = for_each_slot_keeps (λ n j. IsSound j × AreOverBelow m n j) (ending m)
     (λ n j h below kept. (ending-sound ends.sound m j h n kept.0, one_more_over ends m n j h kept.0 kept.1)) k g (sound, λ t below. absurd (omega arith)) in
     (all.0, λ t live own. all.1 t (below_256 now t all.0 live) live own)
 
--- each timeout that is armed has a tick left afterwards
-pub threads_ended-running : EndKeepsServing → (m : ℕ) (k : Kernel) (g : Memory) → Serves k g → IsRunning (threads_ended k g m).kernel.wheel
-threads_ended-running ends m k g serves =
-    let all = for_each_slot_keeps (λ n j. IsSound j × IsRunning j.wheel) (ending m)
-    (λ n j h below kept.
-    let after = ending-serves ends m j h n (record { sound = kept.0; running = kept.1 }) in (after.sound, after.running)) k g (serves.sound, serves.running) in
-    all.1
+-- the kernel serves, as it did
+pub threads_ended-serves : EndKeepsServing → (m : ℕ) (k : Kernel) (g : Memory) → Serves k g → Serves (threads_ended k g m).kernel (threads_ended k g m).memory
+threads_ended-serves ends m k g serves = for_each_slot_both (λ n j h. Serves j h) (ending m) (λ n j h below. ending-serves ends m j h n) k g serves

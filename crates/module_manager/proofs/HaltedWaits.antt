@@ -3,13 +3,13 @@ use Rattle.std.proofs.Common.{◌≡◌, ℕ, ◌==◌, ◌&&◌, List, ◌++◌
 use Rattle.std.proofs.lemmas.Bool.{and_parts, cond_both}
 use Rattle.tx_types.specs.End.{WaitEnd}
 use Rattle.tx_types.specs.declared.state.State.TheVariants.{Terminated}
-use Rattle.object_grants.specs.Slot.{owns}
-use Rattle.object_grants.specs.Table.{slot}
 use Rattle.region_guard.specs.Memory.{Memory}
 use Rattle.soft_timers.specs.Timers.{TimerTable}
 use Rattle.suspend_lists.specs.Waits.{WaitTable, number_of}
-use Rattle.kernel_state.specs.Change.{Change, followed, quiet}
+use Rattle.kernel_state.specs.Change.{Change, quiet}
 use Rattle.kernel_state.specs.Kernel.{thread, is_thread, module_of, removed_thread}
+use Rattle.kernel_state.specs.ObjectLaws.{RemovedCallsWaits, RemovedRaisesNone}
+use Rattle.kernel_state.specs.Objects.{removed}
 use Rattle.kernel_state.specs.Room.{RaisesCounts}
 use Rattle.kernel_state.specs.Sound.{IsSound}
 use Rattle.kernel_state.specs.Thread.{is_over}
@@ -19,20 +19,23 @@ use Rattle.kernel_state.specs.WaitCalls.{CallsWaits, LeavesWaits, OnlyEnds}
 use Rattle.kernel_state.specs.WaitLaws.{EndCallsWaits, EndOnlyEnds, EndRaisesNone, FollowedCallsWaits, LeftCallsWaits}
 use Rattle.kernel_state.specs.declared.kernel.Kernel.{Kernel}
 use Rattle.kernel_state.specs.declared.thread.Thread.{Thread}
-use Rattle.module_manager.specs.Halt.{clearing, ending, for_each_slot, freed, handed_over, one_more, slots_cleared, threads_ended, ties_ended, ungranting}
+use Rattle.module_manager.specs.Halt.{AreOver, clearing, ending, for_each_slot, freed, one_more, slots_cleared, then_freed, threads_ended, ties_ended, ungranting}
 use Rattle.module_manager.specs.Laws.{HaltCallsWaits, HaltRaisesNone}
-use Rattle.module_manager.proofs.Clearing.{slots_cleared-thread}
+use Rattle.module_manager.proofs.Clearing.{Removes, by_clearing, clearing-over, clearing-sound, own_below}
+use Rattle.module_manager.proofs.Ending.{Ends, threads_ended-sound-over}
 use Rattle.module_manager.proofs.Folds.{each_below_keeps, for_each_slot_keeps}
-use Rattle.module_manager.proofs.Ungranting.{ties_ended-thread}
+use Rattle.module_manager.proofs.Ungranting.{ties_ended-is, ties_ended-thread}
 
 -- the laws of the layer below on the end of a thread, and on changes of waits
 pub record WaitLaws : Type 0 where
   pub sound : EndKeepsSound
-  pub counts : EndRaisesNone
   pub calls : EndCallsWaits
   pub only_ends : EndOnlyEnds
   pub left : LeftCallsWaits
   pub followed : FollowedCallsWaits
+  pub removed_calls : RemovedCallsWaits
+  pub ends : Ends
+  pub removes : Removes
 
 -- changes that leave waits and timeouts, one after another
 leaves_more : (k : Kernel) (c d : Change) → LeavesWaits k c → LeavesWaits c.kernel d → LeavesWaits k (record d { ends = c.ends ++ d.ends })
@@ -51,29 +54,8 @@ for_each_slot_leaves change step k g =
     each_below_keeps (λ i (c : Change). LeavesWaits k c) (one_more change) 256
     (λ i c below left. leaves_more k c (change c.kernel c.memory i) left (step c.kernel c.memory i)) (quiet k g) (none_leaves k g)
 
-clearing-leaves : (m : ℕ) (k : Kernel) (g : Memory) (o : ℕ) → LeavesWaits k (clearing m k g o)
-clearing-leaves m k g o =
-    cond_both (owns m (slot k.objects o)) _ (quiet k g) (LeavesWaits k)
-    (λ _. cond_both (is_thread k o) (removed_thread k o) k (λ (j : Kernel). LeavesWaits k (quiet (freed j o) g))
-    (λ _. record { waits = refl; wheel = refl; ends = refl }) (λ _. record { waits = refl; wheel = refl; ends = refl }))
-    (λ _. none_leaves k g)
-
 ungranting-leaves : (m : ℕ) (k : Kernel) (g : Memory) (o : ℕ) → LeavesWaits k (ungranting m k g o)
 ungranting-leaves m k g o = record { waits = refl; wheel = refl; ends = refl }
-
--- the steps of a halt after its threads ended
-abbrev after_threads : Kernel → Memory → ℕ → Change
-after_threads k g m = followed (handed_over k g m) (λ k g. followed (slots_cleared k g m) (λ k g. ties_ended k g m))
-
-pub after_threads-leaves : (k : Kernel) (g : Memory) (m : ℕ) → LeavesWaits k (after_threads k g m)
-after_threads-leaves k g m =
-    let cleared = slots_cleared k g m in
-    leaves_more k cleared (ties_ended cleared.kernel cleared.memory m) (for_each_slot_leaves (clearing m) (clearing-leaves m) k g)
-    (for_each_slot_leaves (ungranting m) (ungranting-leaves m) cleared.kernel cleared.memory)
-
-after_threads-thread : (k : Kernel) (g : Memory) (m t : ℕ) → thread (after_threads k g m).kernel t ≡ thread k t
-after_threads-thread k g m t =
-    let cleared = slots_cleared k g m in ties_ended-thread m cleared.kernel cleared.memory t ∙ slots_cleared-thread m k g t
 
 -- a kernel whose waits and threads are the same
 only_if_same : (k now : Kernel) → now.waits ≡ k.waits → ((t : ℕ) → thread now t ≡ thread k t) → OnlyEnds k now
@@ -111,17 +93,58 @@ one_more_on_the_way laws k c d before more = record {
 threads_ended-on_the_way : WaitLaws → (m : ℕ) (k : Kernel) (g : Memory) → IsSound k → IsOnTheWay k (threads_ended k g m)
 threads_ended-on_the_way laws m k g sound =
     each_below_keeps (λ i (c : Change). IsOnTheWay k c) (one_more (ending m)) 256
-    (λ i c below before. one_more_on_the_way laws k c (ending m c.kernel c.memory i) before (ending-on_the_way laws m c.kernel c.memory i before.sound)) (quiet k g)
+    (λ i c below before. one_more_on_the_way laws k c (ending m c.kernel c.memory i) before (ending-on_the_way laws m c.kernel c.memory i before.sound))
+    (quiet k g)
     (record { sound = sound; calls = laws.left k (quiet k g) (none_leaves k g); only_ends = only_if_same k k refl (λ t. refl) })
+
+-- a change that leaves waits, timeouts and threads is on the way too
+left_on_the_way : WaitLaws → (k : Kernel) (c : Change) → IsSound c.kernel → LeavesWaits k c → ((t : ℕ) → thread c.kernel t ≡ thread k t) → IsOnTheWay k c
+left_on_the_way laws k c sound left threads = record {
+  sound = sound;
+  calls = laws.left k c left;
+  only_ends = only_if_same k c.kernel left.waits threads;
+}
+
+clearing-on_the_way : WaitLaws → (m : ℕ) (k : Kernel) (g : Memory) (o : ℕ) → IsSound k → AreOver k m → IsOnTheWay k (clearing m k g o)
+clearing-on_the_way laws m k g o sound over =
+    let now = clearing-sound laws.removes m k g o sound over in
+    by_clearing m k g o (λ (c : Change). IsSound c.kernel → IsOnTheWay k c)
+    (λ _ so. left_on_the_way laws k (quiet k g) so (none_leaves k g) (λ t. refl))
+    (λ _ _ so. left_on_the_way laws k (then_freed (quiet k g) o) so (record { waits = refl; wheel = refl; ends = refl }) (λ t. refl))
+    (λ own is none so. let r = removed k g o in
+    let below = own_below m k o sound own in
+    let by_calls = laws.removed_calls k g o sound in
+    one_more_on_the_way laws k r (quiet (freed r.kernel o) r.memory)
+    (record { sound = laws.removes.of_object k g o sound below is none; calls = by_calls.calls; only_ends = by_calls.only_ends })
+    (left_on_the_way laws r.kernel (quiet (freed r.kernel o) r.memory) so (record { waits = refl; wheel = refl; ends = refl }) (λ t. refl)))
+    (λ _ _ so. left_on_the_way laws k (then_freed (quiet (removed_thread k o) g) o) so (record { waits = refl; wheel = refl; ends = refl }) (λ t. refl)) now
+
+-- the kernel's threads of the module are over, and all that ended yet is on the way
+slots_cleared-on_the_way : WaitLaws → (m : ℕ) (k : Kernel) (g : Memory) → IsSound k → AreOver k m → IsOnTheWay k (slots_cleared k g m)
+slots_cleared-on_the_way laws m k g sound over =
+    let all = each_below_keeps (λ i (c : Change). IsOnTheWay k c × AreOver c.kernel m) (one_more (clearing m)) 256
+    (λ i c below before. (
+      one_more_on_the_way laws k c (clearing m c.kernel c.memory i) before.0 (clearing-on_the_way laws m c.kernel c.memory i before.0.sound before.1),
+      clearing-over laws.removes m c.kernel c.memory i before.0.sound before.1,
+    ))
+    (quiet k g) (left_on_the_way laws k (quiet k g) sound (none_leaves k g) (λ t. refl), over) in
+    all.0
+
+ties_ended-leaves : (k : Kernel) (g : Memory) (m : ℕ) → LeavesWaits k (ties_ended k g m)
+ties_ended-leaves k g m = for_each_slot_leaves (ungranting m) (ungranting-leaves m) k g
 
 pub halt_calls_waits : WaitLaws → HaltCallsWaits
 halt_calls_waits laws k g m sound =
-    let over = threads_ended k g m in
-    let rest = after_threads over.kernel over.memory m in
-    let all = threads_ended-on_the_way laws m k g sound in
-    let left = after_threads-leaves over.kernel over.memory m in
-    laws.followed k over rest all.calls all.only_ends (laws.left over.kernel rest left)
-    (only_if_same over.kernel rest.kernel left.waits (after_threads-thread over.kernel over.memory m))
+    let ended = threads_ended k g m in
+    let cleared = slots_cleared ended.kernel ended.memory m in
+    let last = ties_ended cleared.kernel cleared.memory m in
+    let over = (threads_ended-sound-over laws.ends m k g sound).1 in
+    let first = threads_ended-on_the_way laws m k g sound in
+    let third = slots_cleared-on_the_way laws m ended.kernel ended.memory first.sound over in
+    let ties = left_on_the_way laws cleared.kernel last (ties_ended-is laws.removes.changes m cleared.kernel cleared.memory third.sound).0
+    (ties_ended-leaves cleared.kernel cleared.memory m) (ties_ended-thread m cleared.kernel cleared.memory) in
+    let rest = one_more_on_the_way laws ended.kernel cleared last third ties in
+    (one_more_on_the_way laws k ended (record last { ends = cleared.ends ++ last.ends }) first rest).calls
 
 -- counts
 none_more : (k j l : Kernel) → RaisesCounts 0 k j → RaisesCounts 0 j l → RaisesCounts 0 k l
@@ -143,11 +166,27 @@ ending-counts counts m k g t =
     cond_both (is_thread k t && (module_of k t == m)) (ended k g t Terminated) (quiet k g) (λ (c : Change). RaisesCounts 0 k c.kernel)
     (λ _. counts k g t Terminated) (λ _. none_if_left k (quiet k g) (none_leaves k g))
 
-pub halt_raises_none : WaitLaws → HaltRaisesNone
-halt_raises_none laws k g m =
-    let over = threads_ended k g m in
-    let rest = after_threads over.kernel over.memory m in
-    none_more k over.kernel rest.kernel
-    (for_each_slot_keeps (λ n j. RaisesCounts 0 k j) (ending m) (λ n j h below before. none_more k j (ending m j h n).kernel before (ending-counts laws.counts m j h n)) k g
-    (none_if_left k (quiet k g) (none_leaves k g)))
-    (none_if_left over.kernel rest (after_threads-leaves over.kernel over.memory m))
+clearing-counts : RemovedRaisesNone → (m : ℕ) (k : Kernel) (g : Memory) (o : ℕ) → RaisesCounts 0 k (clearing m k g o).kernel
+clearing-counts counts m k g o =
+    let none = none_if_left k (quiet k g) (none_leaves k g) in
+    by_clearing m k g o (λ (c : Change). RaisesCounts 0 k c.kernel) (λ _. none)
+    (λ _ _. record { begun = none.begun; armings = none.armings; ticks = none.ticks })
+    (λ _ _ _. let r = counts k g o in record { begun = r.begun; armings = r.armings; ticks = r.ticks })
+    (λ _ _. record { begun = none.begun; armings = none.armings; ticks = none.ticks })
+
+-- what raises no count raises none over all slots
+all_raise_none : (change : Kernel → Memory → ℕ → Change) → ((k : Kernel) (g : Memory) (i : ℕ) → RaisesCounts 0 k (change k g i).kernel)
+    → (k : Kernel) (g : Memory)
+    → RaisesCounts 0 k (for_each_slot change k g).kernel
+all_raise_none change each k g =
+    for_each_slot_keeps (λ n j. RaisesCounts 0 k j) change (λ n j h below before. none_more k j (change j h n).kernel before (each j h n)) k g
+    (none_if_left k (quiet k g) (none_leaves k g))
+
+pub halt_raises_none : EndRaisesNone → RemovedRaisesNone → HaltRaisesNone
+halt_raises_none ends removes k g m =
+    let ended = threads_ended k g m in
+    let cleared = slots_cleared ended.kernel ended.memory m in
+    let last = ties_ended cleared.kernel cleared.memory m in
+    none_more k ended.kernel last.kernel (all_raise_none (ending m) (ending-counts ends m) k g)
+    (none_more ended.kernel cleared.kernel last.kernel (all_raise_none (clearing m) (clearing-counts removes m) ended.kernel ended.memory)
+    (none_if_left cleared.kernel last (ties_ended-leaves cleared.kernel cleared.memory m)))

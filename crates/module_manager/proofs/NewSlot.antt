@@ -1,5 +1,6 @@
 -- A thread that is made in the lowest usable slot.
-use Rattle.std.proofs.Common.{◌≡◌, ◌≢◌, ℕ, suc, ◌+◌, ◌<◌, ◌≤◌, ◌==◌, ◌&&◌, Bool, true, false, cond, not, nat_lt, List, [], ◌∷◌, length, filter, Some, None, position, slice_set, refl, sym, ap, ◌∙◌, subst, arith}
+use Rattle.std.proofs.Common.{◌≡◌, ◌≢◌, ℕ, suc, ◌+◌, ◌<◌, ◌≤◌, ◌==◌, ◌&&◌, Bool, true, false, cond, not, nat_lt, List, [], ◌∷◌, length, filter, Some, None}
+use Rattle.std.proofs.Common.{position, slice_set, refl, sym, ap, ◌∙◌, subst, arith}
 use Rattle.std.proofs.lemmas.Bool.{and_parts, cond-true, eqb-true, false≢true, lt-ltb}
 use Rattle.std.proofs.lemmas.List.{get_or-set_same, get_or-set_other, set-set}
 use Rattle.std.proofs.lemmas.List.Quantifiers.{position-Some}
@@ -89,7 +90,8 @@ new-spares k name s some u live =
 one_passes_less : (p : Slot → Bool) (xs : List Slot) (i : ℕ) (y : Slot) → i < length xs → p (slot xs i) ≡ true → p y ≡ false
     → length (filter p (slice_set xs i y)) + 1 ≡ length (filter p xs)
 one_passes_less p xs i y inside had_it lost =
-    let sums : count_by p (slice_set xs i y) + cond (p (slot xs i)) 1 0 ≡ count_by p xs + cond (p y) 1 0 = sum_by-set (λ (x : Slot). cond (p x) 1 0) xs i y (free_slot 0) inside in
+    let sums : count_by p (slice_set xs i y) + cond (p (slot xs i)) 1 0 ≡ count_by p xs + cond (p y) 1 0 =
+    sum_by-set (λ (x : Slot). cond (p x) 1 0) xs i y (free_slot 0) inside in
     let had : ◌≡◌ {A = ℕ} (cond (p (slot xs i)) 1 0) 1 = ap (λ b. cond b 1 0) had_it in
     let has : ◌≡◌ {A = ℕ} (cond (p y) 1 0) 0 = ap (λ b. cond b 1 0) lost in
     omega (arith, length-filter p xs, length-filter p (slice_set xs i y))
@@ -107,7 +109,8 @@ never-none k ref some none = none-some (ref (next_slot k)) (sym none ∙ ap (opt
 slot_of-reference : (o generation : ℕ) → o < 256 → slot_of (reference o generation) ≡ o
 slot_of-reference o generation below = omega arith
 
-pub slot_of-allocated : (k : Kernel) (table : List Slot) (r : ℕ) → IsSound k → 1 ≤ usable_slots k → option_map (ref_of table) (position is_usable k.objects) ≡ Some r → slot_of r ≡ next_slot k
+pub slot_of-allocated : (k : Kernel) (table : List Slot) (r : ℕ) → IsSound k → 1 ≤ usable_slots k
+    → option_map (ref_of table) (position is_usable k.objects) ≡ Some r → slot_of r ≡ next_slot k
 slot_of-allocated k table r sound some answer =
     let o = next_slot k in
     let free = next-free k some in

@@ -22,7 +22,8 @@ beginning_keeps_memory k g m r =
     cond_both (has_callback r.preamble) _ _ (λ (c : Change). c.memory ≡ g) (λ _. refl) (λ _. refl)
 
 -- what holds of the memory that stays, and of the one with its data region zeroed
-by_start : (rows : List Module) (k : Kernel) (g : Memory) (m : ℕ) (P : Memory → Type 0) → P (zeroed g (module_at rows m)) → P g → P (start_row rows k g m).change.memory
+by_start : (rows : List Module) (k : Kernel) (g : Memory) (m : ℕ) (P : Memory → Type 0) → P (zeroed g (module_at rows m)) → P g
+    → P (start_row rows k g m).change.memory
 unfolding start_row
 by_start rows k g m P after before =
     cond_both (can_start k (module_at rows m)) _ _ (λ (o : StartOutcome). P o.change.memory)
@@ -39,7 +40,8 @@ start_writes_its_data in_ram outside rows k g m x sound some own out =
     by_start rows k g m (λ (now : Memory). byte now x ≡ byte g x)
     (outside g (replicate n 0) r.placed.data_base x lies.from_base (subst (λ i. IsOutside r.placed.data_base i x) (sym (length-replicate n 0)) out)) refl
 
-beginning_keeps_waits : (k : Kernel) (g : Memory) (m : ℕ) (r : Module) → let c = begun k g m r in (c.kernel.waits ≡ k.waits) × (c.kernel.wheel ≡ k.wheel) × (c.ends ≡ [])
+beginning_keeps_waits : (k : Kernel) (g : Memory) (m : ℕ) (r : Module) → let c = begun k g m r in
+    (c.kernel.waits ≡ k.waits) × (c.kernel.wheel ≡ k.wheel) × (c.ends ≡ [])
 unfolding begun_both begun_alone
 beginning_keeps_waits k g m r =
     cond_both (has_callback r.preamble) _ _ (λ (c : Change). (c.kernel.waits ≡ k.waits) × (c.kernel.wheel ≡ k.wheel) × (c.ends ≡ []))

@@ -5,18 +5,21 @@ use Rattle.std.proofs.lemmas.List.{get_or-set_same, get_or-set_other, get_or_pas
 use Rattle.std.proofs.lemmas.Nat.{mod_below, pow_pos, shr_high, shr_split}
 use Rattle.std.proofs.lemmas.Nat.Bits.{bit_at-zero}
 use Rattle.machine_words.specs.Bits.{bits}
+use Rattle.tx_types.specs.declared.kind.Kind.{Kind}
 use Rattle.object_grants.specs.Slot.{free_slot, is_granted, owns, without_grant}
 use Rattle.object_grants.specs.Table.{slot}
 use Rattle.object_grants.specs.declared.slot.Slot.{Slot}
 use Rattle.object_grants.specs.declared.slot.SlotState.{SlotState}
 use Rattle.object_grants.specs.declared.slot.SlotState.TheVariants.{Free, Empty, Live}
 use Rattle.region_guard.specs.Memory.{Memory}
-use Rattle.kernel_state.specs.Kernel.{thread, has_thread}
+use Rattle.kernel_state.specs.Kernel.{thread, has_thread, is_live_of}
 use Rattle.kernel_state.specs.Laws.{OneSlotChanges}
+use Rattle.kernel_state.specs.Serves.{Serves}
 use Rattle.kernel_state.specs.Sound.{IsSound, IsClean}
 use Rattle.kernel_state.specs.declared.kernel.Kernel.{Kernel}
+use Rattle.thread_calls.specs.Laws.{SlotKeepsServing}
 use Rattle.module_manager.specs.Halt.{ties_ended, ungranting}
-use Rattle.module_manager.proofs.Folds.{for_each_slot_keeps, for_each_slot_memory}
+use Rattle.module_manager.proofs.Folds.{for_each_slot_both, for_each_slot_keeps, for_each_slot_memory}
 
 -- the bit of a grant is gone
 row_below : (j p r g : ℕ) → (j + 1) * p + r ≡ g → g - p ≡ j * p + r
@@ -34,7 +37,8 @@ bit_gone g m set =
     ap (λ n. n % 2) row ∙ omega arith
 
 -- a slot with the grant loses its bit, and any other is as it was
-by_grant : (m : ℕ) (s : Slot) (P : Slot → Type 0) → (is_granted m s ≡ true → P (record s { grants = s.grants - 2 ^ m })) → (is_granted m s ≡ false → P s) → P (without_grant m s)
+by_grant : (m : ℕ) (s : Slot) (P : Slot → Type 0) → (is_granted m s ≡ true → P (record s { grants = s.grants - 2 ^ m })) → (is_granted m s ≡ false → P s)
+    → P (without_grant m s)
 by_grant m s P granted other = cond_both (is_granted m s) (record s { grants = s.grants - 2 ^ m }) s P granted other
 
 without_grant-gone : (m : ℕ) (s : Slot) → is_granted m (without_grant m s) ≡ false
@@ -47,6 +51,9 @@ without_grant-owns m n s = by_grant m s (λ (x : Slot). owns n x ≡ owns n s) (
 
 without_grant-owner : (m : ℕ) (s : Slot) → (without_grant m s).owner ≡ s.owner
 without_grant-owner m s = by_grant m s (λ (x : Slot). x.owner ≡ s.owner) (λ _. refl) (λ _. refl)
+
+without_grant-kind : (m : ℕ) (s : Slot) (kind : Kind) → is_live_of kind (without_grant m s) ≡ is_live_of kind s
+without_grant-kind m s kind = by_grant m s (λ (x : Slot). is_live_of kind x ≡ is_live_of kind s) (λ _. refl) (λ _. refl)
 
 pub without_grant-thread : (m : ℕ) (s : Slot) → has_thread (without_grant m s) ≡ has_thread s
 without_grant-thread m s = by_grant m s (λ (x : Slot). has_thread x ≡ has_thread s) (λ _. refl) (λ _. refl)
@@ -65,10 +72,23 @@ ungranting-sound changes m k g o sound below =
     let s = slot k.objects o in
     changes k o (without_grant m s) sound below
     (by_grant m s (λ (x : Slot). IsClean x x.state) (λ granted. still_clean m s s.state granted (sound.formed.clean o below)) (λ _. sound.formed.clean o below))
-    (without_grant-thread m s) (λ _. without_grant-owner m s)
+    (without_grant-kind m s) (λ _. without_grant-owner m s)
+
+ungranting-serves : SlotKeepsServing → (m : ℕ) (k : Kernel) (g : Memory) (o : ℕ) → Serves k g → o < 256 → Serves (ungranting m k g o).kernel g
+ungranting-serves changes m k g o serves below =
+    let s = slot k.objects o in
+    changes k g o (without_grant m s) serves below
+    (by_grant m s (λ (x : Slot). IsClean x x.state) (λ granted. still_clean m s s.state granted (serves.sound.formed.clean o below))
+    (λ _. serves.sound.formed.clean o below))
+    (without_grant-kind m s) (λ _. without_grant-owner m s)
+
+pub ties_ended-serves : SlotKeepsServing → (m : ℕ) (k : Kernel) (g : Memory) → Serves k g → Serves (ties_ended k g m).kernel (ties_ended k g m).memory
+ties_ended-serves changes m k g serves =
+    for_each_slot_both (λ n j h. Serves j h) (ungranting m) (λ n j h below serves. ungranting-serves changes m j h n serves below) k g serves
 
 -- what the slots lose, one after another
-ungranting-here : (m : ℕ) (k : Kernel) (g : Memory) (o : ℕ) → o < length k.objects → slot (ungranting m k g o).kernel.objects o ≡ without_grant m (slot k.objects o)
+ungranting-here : (m : ℕ) (k : Kernel) (g : Memory) (o : ℕ) → o < length k.objects
+    → slot (ungranting m k g o).kernel.objects o ≡ without_grant m (slot k.objects o)
 ungranting-here m k g o size = get_or-set_same k.objects o (without_grant m (slot k.objects o)) (free_slot 0) size
 
 ungranting-other : (m : ℕ) (k : Kernel) (g : Memory) (o u : ℕ) → u ≢ o → slot (ungranting m k g o).kernel.objects u ≡ slot k.objects u
@@ -79,7 +99,8 @@ abbrev AreUngrantedBelow : ℕ → Kernel → ℕ → Kernel → Type 0
 AreUngrantedBelow m k n j =
     ((o : ℕ) → o < n → slot j.objects o ≡ without_grant m (slot k.objects o)) × ((o : ℕ) → (o < n → ⊥) → slot j.objects o ≡ slot k.objects o)
 
-one_more_ungranted : (m : ℕ) (k : Kernel) (n : ℕ) (j : Kernel) (h : Memory) → n < length j.objects → AreUngrantedBelow m k n j → AreUngrantedBelow m k (suc n) (ungranting m j h n).kernel
+one_more_ungranted : (m : ℕ) (k : Kernel) (n : ℕ) (j : Kernel) (h : Memory) → n < length j.objects → AreUngrantedBelow m k n j
+    → AreUngrantedBelow m k (suc n) (ungranting m j h n).kernel
 one_more_ungranted m k n j h size before = (
   λ o below. ⊎_elim
       (λ (same : o ≡ n). subst (λ i. slot (ungranting m j h n).kernel.objects i ≡ without_grant m (slot k.objects i)) (sym same)
@@ -104,8 +125,8 @@ pub ties_ended-memory : (k : Kernel) (g : Memory) (m : ℕ) → (ties_ended k g 
 ties_ended-memory k g m = for_each_slot_memory (ungranting m) (λ j h o. refl) k g
 
 -- what holds of a slot without the grant and of a free one holds of every slot then
-at_last : (P : Slot → Type 0) → OneSlotChanges → (m : ℕ) (k : Kernel) (g : Memory) (o : ℕ) → IsSound k → P (without_grant m (slot k.objects o)) → P (free_slot 0)
-    → P (slot (ties_ended k g m).kernel.objects o)
+at_last : (P : Slot → Type 0) → OneSlotChanges → (m : ℕ) (k : Kernel) (g : Memory) (o : ℕ) → IsSound k
+    → P (without_grant m (slot k.objects o)) → P (free_slot 0) → P (slot (ties_ended k g m).kernel.objects o)
 at_last P changes m k g o sound inside outside =
     let now = (ties_ended k g m).kernel in
     let all = ties_ended-is changes m k g sound in

@@ -1,12 +1,15 @@
 -- The halt of a module: all that it has in the kernel ends.
-use Rattle.std.specs.Prelude.{ℕ, zero, suc, ◌==◌, ◌&&◌, if◌then◌else◌}
+use Rattle.std.specs.Prelude.{◌≡◌, ℕ, zero, suc, ◌==◌, ◌&&◌, true, if◌then◌else◌}
 use Rattle.tx_types.specs.Limits.{slot_limit}
 use Rattle.tx_types.specs.declared.state.State.TheVariants.{Terminated}
-use Rattle.object_grants.specs.Slot.{owns}
+use Rattle.object_grants.specs.Slot.{is_in, owns}
 use Rattle.object_grants.specs.Table.{slot, after_free, after_revoke}
+use Rattle.object_grants.specs.declared.slot.SlotState.TheVariants.{Live}
 use Rattle.region_guard.specs.Memory.{Memory}
 use Rattle.kernel_state.specs.Change.{Change, followed, quiet}
-use Rattle.kernel_state.specs.Kernel.{is_thread, module_of, removed_thread}
+use Rattle.kernel_state.specs.Kernel.{is_thread, module_of, removed_thread, thread}
+use Rattle.kernel_state.specs.Objects.{removed}
+use Rattle.kernel_state.specs.Thread.{is_over}
 use Rattle.kernel_state.specs.ThreadChanges.{ended}
 use Rattle.kernel_state.specs.declared.kernel.Kernel.{Kernel}
 
@@ -26,16 +29,29 @@ for_each_slot change k g = each_below slot_limit (one_more change) (quiet k g)
 abbrev pub ending : ℕ → Kernel → Memory → ℕ → Change
 ending m k g t = if is_thread k t && (module_of k t == m) then ended k g t Terminated else quiet k g
 
--- an object is removed by its kind, of which threads alone have more to end than their slot
-abbrev pub removed_by_kind : Kernel → ℕ → Kernel
-removed_by_kind k o = if is_thread k o then removed_thread k o else k
+-- an object is removed: a thread, for which nobody waits, or any other, whose waiters end as
+-- Deleted
+abbrev pub removed_by_kind : Kernel → Memory → ℕ → Change
+removed_by_kind k g o =
+    if is_thread k o then quiet (removed_thread k o) g
+    else if is_in Live (slot k.objects o) then removed k g o
+    else quiet k g
 
 -- a slot of the module, Empty or Live, is freed; an object in it is removed first
 abbrev pub freed : Kernel → ℕ → Kernel
 freed k o = record k { objects = after_free k.objects o }
 
+abbrev pub then_freed : Change → ℕ → Change
+then_freed c o = followed c (λ now h. quiet (freed now o) h)
+
 abbrev pub clearing : ℕ → Kernel → Memory → ℕ → Change
-clearing m k g o = if owns m (slot k.objects o) then quiet (freed (removed_by_kind k o) o) g else quiet k g
+clearing m k g o =
+    if owns m (slot k.objects o) then then_freed (removed_by_kind k g o) o else quiet k g
+
+-- no thread of the module goes on
+abbrev pub AreOver : Kernel → ℕ → Type 0
+AreOver k m =
+    (t : ℕ) → is_thread k t ≡ true → module_of k t ≡ m → is_over (thread k t).state ≡ true
 
 -- what the module was granted of an object ends
 abbrev pub ungranting : ℕ → Kernel → Memory → ℕ → Change
@@ -49,7 +65,7 @@ threads_ended k g m = for_each_slot (ending m) k g
 abbrev pub handed_over : Kernel → Memory → ℕ → Change
 handed_over k g m = quiet k g
 
--- its slots are freed
+-- its slots are freed, with all objects in them
 abbrev pub slots_cleared : Kernel → Memory → ℕ → Change
 slots_cleared k g m = for_each_slot (clearing m) k g
 

@@ -1,5 +1,6 @@
 -- Modules: their preambles, their places and their states.
-use Rattle.std.specs.Prelude.{◌≡◌, ℕ, ◌≤◌, Bool, true, false, List, [], length, All, Option, None, Some, slice_set}
+use Rattle.std.specs.Prelude.{◌≡◌, ℕ, ◌≤◌, Bool, true, false, List, [], length, All, Option, None}
+use Rattle.std.specs.Prelude.{Some, slice_set}
 use Rattle.std.specs.List.{slice_index_or}
 use Rattle.tx_types.specs.Limits.{module_limit}
 use Rattle.module_loader.specs.Opening.{LiesAt, Begins}
@@ -11,7 +12,8 @@ use Rattle.rv_core.specs.declared.bus.Cause.{Cause}
 use Rattle.module_manager.specs.declared.modules.Fault.{Fault}
 use Rattle.module_manager.specs.declared.modules.Module.{Module}
 use Rattle.module_manager.specs.declared.modules.ModuleState.{ModuleState}
-use Rattle.module_manager.specs.declared.modules.ModuleState.TheVariants.{Loaded, Started, Stopped, Faulted}
+use Rattle.module_manager.specs.declared.modules.ModuleState.TheVariants.{Loaded, Started, Stopped}
+use Rattle.module_manager.specs.declared.modules.ModuleState.TheVariants.{Faulted}
 
 -- the numbers of the states
 abbrev pub module_state_number : ModuleState → ℕ
@@ -43,13 +45,15 @@ loaded r = record { preamble = r.0; placed = r.1; state = Loaded }
 
 -- the module of a number; past the last one, a preamble of zeros
 abbrev pub module_at : List Module → ℕ → Module
-module_at rows m = slice_index_or rows m (loaded (words_of [], record { code_base = 0; data_base = 0 }))
+module_at rows m =
+    slice_index_or rows m (loaded (words_of [], record { code_base = 0; data_base = 0 }))
 
 -- a module gets a state
 abbrev pub with_state : List Module → ℕ → ModuleState → List Module
 with_state rows m state = slice_set rows m (record (module_at rows m) { state = state })
 
--- a preamble has the sizes of an accepted image, its module lies at its place, and its threads begin in its code
+-- a preamble has the sizes of an accepted image, its module lies at its place, and its threads
+-- begin in its code
 pub record IsPlaced (p : Preamble) (at : Placed) : Type 0 where
   pub sizes : HasSizes p
   pub lies : LiesAt p at

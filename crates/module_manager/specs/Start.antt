@@ -1,5 +1,7 @@
--- The start of a module: its data is zeroed, its threads are made in the lowest usable slots, and then they are started.
-use Rattle.std.specs.Prelude.{ℕ, ◌&&◌, Bool, true, false, nat_le, List, codes, length, filter, position, replicate, Option, None, Some, if◌then◌else◌}
+-- The start of a module: its data is zeroed, its threads are made in the lowest usable slots, and
+-- then they are started.
+use Rattle.std.specs.Prelude.{ℕ, ◌&&◌, Bool, true, false, nat_le, List, codes, length, filter}
+use Rattle.std.specs.Prelude.{position, replicate, Option, None, Some, if◌then◌else◌}
 use Rattle.std.specs.Option.{unwrap_or}
 use Rattle.tx_types.specs.Code.{success, start_error}
 use Rattle.tx_types.specs.declared.kind.Kind.TheVariants.{Thread}
@@ -34,7 +36,8 @@ can_start k r = may_start r.state && nat_le (slots_needed r.preamble) (usable_sl
 abbrev pub zeroed : Memory → Module → Memory
 zeroed g r = with_bytes g r.placed.data_base (replicate (want_of r.preamble).data_bytes 0)
 
--- the names of the two threads, and what each is made of: its threshold is its priority, and it has no time slice
+-- the names of the two threads, and what each is made of: its threshold is its priority, and it has
+-- no time slice
 abbrev pub start_name : List ℕ
 start_name = codes "start"
 
@@ -81,7 +84,8 @@ unfoldable pub begun_both : Kernel → Memory → ℕ → Module → Change
 begun_both k g m r =
     let one = in_new_slot k start_name (start_spec m r) in
     let both = in_new_slot one callback_name (callback_spec m r) in
-    followed (started (with_callback both m (Some (next_slot one))) g (next_slot k)) (λ k g. started k g (next_slot one))
+    followed (started (with_callback both m (Some (next_slot one))) g (next_slot k))
+    (λ k g. started k g (next_slot one))
 
 abbrev pub begun : Kernel → Memory → ℕ → Module → Change
 begun k g m r = if has_callback r.preamble then begun_both k g m r else begun_alone k g m r

@@ -1,14 +1,15 @@
-//! The halt of a module: its threads end, then its slots, then its grants.
+//! The halt of a module: its threads end, then its objects and slots, then its grants.
 //!
 //! Each of these goes by number over all slots. Between the first two its mutexes will be handed over;
-//! there are none yet.
+//! there are none yet. The waits of its own threads end with them, so those that end with its objects
+//! are of other modules' threads.
 ghost use Rattle.std.specs.Prelude.{◌≡◌};
 ghost use Rattle.kernel_state.specs.Serves.{Serves};
-ghost use Rattle.module_manager.specs.Halt.{clearing, ending, halted, removed_by_kind, slots_cleared, threads_ended, ties_ended, ungranting};
+ghost use Rattle.module_manager.specs.Halt.{AreOver, clearing, ending, halted, removed_by_kind, slots_cleared, threads_ended, ties_ended, ungranting};
 
 use crate::laws::{a_halt_ends_its_module, a_halt_spares_other_modules};
 use kernel_state::{Kernel, end_thread};
-use object_grants::SLOTS;
+use object_grants::{SLOTS, SlotState};
 use region_guard::Guard;
 use tx_types::{ModNo, ObjNo, State, ThreadNo};
 
@@ -33,7 +34,10 @@ fn end_threads(k: &mut Kernel, g: &mut Guard, m: ModNo)
     requires { Serves k.old g.old }
     ensures kernel { k.new ≡ (threads_ended k.old g.old m).kernel }
     ensures memory { g.new ≡ (threads_ended k.old g.old m).memory }
+    ensures serves { Serves k.new g.new }
+    ensures over { AreOver k.new m }
 {
+    a_halt_ends_its_module();
     for t in 0..SLOTS {
         end_one(k, g, m, ObjNo::new(t));
     }
@@ -51,9 +55,11 @@ fn end_one(k: &mut Kernel, g: &mut Guard, m: ModNo, t: ThreadNo)
     }
 }
 
-/// Frees each slot of a module, by number.
+/// Frees each slot of a module whose threads are over, by number.
 #[tactic(auto, using(crate::proofs::Folds::changed_below_more, crate::proofs::Folds::changed_below_none))]
 fn clear_slots(k: &mut Kernel, g: &mut Guard, m: ModNo)
+    requires serves { Serves k.old g.old }
+    requires over { AreOver k.old m }
     ensures kernel { k.new ≡ (slots_cleared k.old g.old m).kernel }
     ensures memory { g.new ≡ (slots_cleared k.old g.old m).memory }
 {
@@ -64,22 +70,31 @@ fn clear_slots(k: &mut Kernel, g: &mut Guard, m: ModNo)
 
 /// Frees a slot, where it is the module's; an object in it is removed first.
 fn clear_one(k: &mut Kernel, g: &mut Guard, m: ModNo, o: ObjNo)
+    requires serves { Serves k.old g.old }
+    requires over { AreOver k.old m }
     ensures kernel { k.new ≡ (clearing m k.old g.old o).kernel }
     ensures memory { g.new ≡ (clearing m k.old g.old o).memory }
+    ensures serves { Serves k.new g.new }
+    ensures over { AreOver k.new m }
 {
-    let _ = &g;
+    a_halt_ends_its_module();
     if k.objects.may_delete(m, o) {
-        remove_by_kind(k, o);
+        remove_by_kind(k, g, o);
         k.objects.free(o);
     }
 }
 
-/// Removes an object by its kind: of all kinds, threads alone have more to end than their slot.
-fn remove_by_kind(k: &mut Kernel, o: ObjNo)
-    ensures { k.new ≡ removed_by_kind k.old o }
+/// Removes the object of a slot, where there is one, by its kind: nobody waits for a thread, and the
+/// waits for any other end.
+fn remove_by_kind(k: &mut Kernel, g: &mut Guard, o: ObjNo)
+    requires { Serves k.old g.old }
+    ensures kernel { k.new ≡ (removed_by_kind k.old g.old o).kernel }
+    ensures memory { g.new ≡ (removed_by_kind k.old g.old o).memory }
 {
     if k.is_thread(o) {
         k.remove_thread(o);
+    } else if k.objects.slot(o).is_in(SlotState::Live) {
+        k.remove_object(g, o);
     }
 }
 

@@ -5,7 +5,7 @@
 ghost use Rattle.std.specs.Prelude.{◌≡◌, ◌≢◌, ◌<◌, ◌≤◌, ◌+◌, ℕ, true, All, IfSome};
 ghost use Rattle.module_preamble.specs.Words.{has_callback};
 ghost use Rattle.module_loader.specs.Want.{want_of};
-ghost use Rattle.region_guard.specs.Memory.{may};
+ghost use Rattle.region_guard.specs.Memory.{Memory, may};
 ghost use Rattle.tx_types.specs.Limits.{priority_limit};
 ghost use Rattle.tx_types.specs.declared.state.State.TheVariants.{Suspended};
 ghost use Rattle.kernel_state.specs.Kernel.{is_thread, module_of, thread};
@@ -16,13 +16,14 @@ ghost use Rattle.module_manager.specs.Modules.{IsPlaced};
 ghost use Rattle.module_manager.specs.Start.{begun, begun_alone, begun_both, callback_spec, can_start, in_new_slot, next_slot, slots_needed, start_spec, usable_slots, with_callback, zeroed};
 
 use crate::modules::Module;
+use kernel_state::laws::a_promised_result_may_be_stored;
 use kernel_state::{Kernel, Spot, ThreadSpec, start_thread};
 use module_loader::{opening, want_of};
 use module_preamble::Preamble;
 use object_grants::SLOTS;
 use region_guard::{Access, Guard};
 use rv_core::Hart;
-use thread_calls::laws::a_change_of_slots_keeps_sound;
+use thread_calls::laws::{a_change_of_slots_keeps_serving, a_change_of_slots_keeps_sound};
 use tx_types::{Kind, ModNo, Name, ObjNo, Prio, ThreadNo, Thresh};
 
 /// Whether a module is loaded or stopped, and enough slots are usable.
@@ -60,8 +61,10 @@ pub(crate) fn zero_data(g: &mut Guard, m: ModNo, row: &Module)
     requires some { 0 < (want_of row.now.preamble).data_bytes }
     requires own { may g.old m Access.Store row.now.placed.data_base
         (want_of row.now.preamble).data_bytes ≡ true }
-    ensures { g.new ≡ zeroed g.old row.now }
+    ensures after { g.new ≡ zeroed g.old row.now }
+    ensures serves { (k : Kernel) → Serves k g.old → Serves k g.new }
 {
+    a_promised_result_may_be_stored();
     let n = want_of(&row.preamble).data_bytes;
     g.window(m, row.placed.data_base, n).fill(0);
 }
@@ -182,8 +185,10 @@ fn make_thread(k: &mut Kernel, name: Name, s: ThreadSpec) -> ThreadNo
     ensures others { (u : ℕ) → is_thread k.old u ≡ true
         → (u ≢ result) × (is_thread k.new u ≡ true) × (thread k.new u ≡ thread k.old u) }
     ensures sound { IsSound k.new }
+    ensures serves { (g : Memory) → Serves k.old g → Serves k.new g }
 {
     a_change_of_slots_keeps_sound();
+    a_change_of_slots_keeps_serving();
     let Some(r) = k.objects.allocate(s.module, Kind::Thread) else {
         unreachable!()
     };
@@ -200,6 +205,7 @@ fn set_callback(k: &mut Kernel, m: ModNo, callback: Option<ThreadNo>)
     ensures after { k.new ≡ with_callback k.old m callback }
     ensures levels { k.new.ready.levels ≡ k.old.ready.levels }
     ensures sound { IsSound k.new }
+    ensures serves { (g : Memory) → Serves k.old g → Serves k.new g }
 {
     let spot = k.spot(m);
     k.set_spot(m, Spot { callback, ..spot });

@@ -1,7 +1,5 @@
 use Rattle.std.proofs.Common.{◌≡◌, rules, subst, sym, ◌∙◌}
-use Rattle.soft_timers.specs.Timers.{IsRunning}
-use Rattle.kernel_state.specs.Sound.{IsSound}
-use Rattle.kernel_state.specs.declared.kernel.Kernel.{Kernel}
+use Rattle.kernel_state.specs.Serves.{Serves}
 use Rattle.module_manager.specs.Halt.{halted}
 use Rattle.module_manager.proofs.halt.halt.Goals as goal
 
@@ -16,6 +14,8 @@ pub returns-clause-serves : goal.returns-clause-serves
 returns-clause-serves c =
     let k = c.args.k.now in
     let g = c.args.g.now in
+    let after = halted k g c.args.m in
     let serves = c.a_halt_ends_its_module.ensures.serves k g c.args.m c.requires in
-    let kernel : c.end_ties.new.k ≡ (halted k g c.args.m).kernel = search rules in
-    record { sound = subst (λ j. IsSound j) (sym kernel) serves.sound; running = subst (λ (j : Kernel). IsRunning j.wheel) (sym kernel) serves.running }
+    let kernel : c.end_ties.new.k ≡ after.kernel = search rules in
+    let memory : c.end_ties.new.g ≡ after.memory = search rules in
+    subst (Serves c.end_ties.new.k) (sym memory) (subst (λ j. Serves j after.memory) (sym kernel) serves)

@@ -40,3 +40,8 @@ start_thread-requires-2-clause-suspended c =
     ap (λ (now : Kernel). thread now u) c.start_thread.ensures.kernel ∙ (started-other c.set_callback.new.k c.args.g.now t u (λ same. apart (sym same))
     ∙ ap (λ (now : Kernel). thread now u) c.set_callback.ensures.after) in
     subst (λ (x : Thread). is_state x.state Suspended ≡ true) (sym there) c.make_thread-u.ensures.suspended
+
+pub start_thread-requires-clause-serves : goal.start_thread-requires-clause-serves
+start_thread-requires-clause-serves c =
+    let g = c.args.g.now in
+    c.set_callback.ensures.serves g (c.make_thread-u.ensures.serves g (c.make_thread-t.ensures.serves g c.requires.serves))
