@@ -16,6 +16,8 @@ clock_keeps_sound from k c sound =
       waits = formed.waits;
       wheel = formed.wheel;
       clean = formed.clean;
+      contents = formed.contents;
+      asked = formed.asked;
       entries = λ u below. inl (record {
         live = refl;
         alike = record { «module» = refl; state = refl; priority = refl; threshold = refl; slice = refl; left = refl; held = refl };

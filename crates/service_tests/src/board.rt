@@ -4,12 +4,15 @@
 //! can't give is left out, and the step that makes it fails.
 ghost use Rattle.std.specs.Prelude.{◌≡◌, IfOk};
 ghost use Rattle.soft_timers.specs.Timers.{IsRunning};
+ghost use Rattle.region_guard.specs.Memory.{Memory};
 ghost use Rattle.kernel_state.specs.Serves.{Serves};
 ghost use Rattle.kernel_state.specs.Sound.{IsSound};
 
 use call_dispatch::dispatch;
 use flat_ram::Ram;
-use kernel_state::laws::{a_kernel_stays_sound, who_runs_is_a_thread};
+use kernel_state::laws::{
+    a_kernel_stays_sound, a_promised_result_may_be_stored, who_runs_is_a_thread,
+};
 use kernel_state::{Kernel, Spot, ThreadSpec, start_thread};
 use module_loader::{Placed, want_of};
 use module_manager::Manager;
@@ -20,7 +23,7 @@ use rv_core::{Cause, Hart};
 use std::alloc::Global;
 use std::marker::Model;
 use std::test::Fail;
-use thread_calls::laws::a_change_of_slots_keeps_sound;
+use thread_calls::laws::a_change_of_slots_keeps_serving;
 use tx_types::{Kind, ModNo, Name, ObjNo, Prio, ThreadNo, Thresh};
 
 /// Modules, a kernel and its memory.
@@ -108,7 +111,7 @@ impl Board {
 
     /// A module stores the low n bytes of a word.
     pub fn store(&mut self, m: ModNo, a: u32, n: u32, word: u32) -> bool {
-        store(&mut self.g, m, a, n, word)
+        store(&self.k, &mut self.g, m, a, n, word)
     }
 
     /// A module is started: what is answered.
@@ -132,16 +135,12 @@ impl Board {
     }
 }
 
+/// A kernel in which nothing waits serves over every memory.
 fn kernel(alloc: Global) -> Result<Kernel, Fail>
-    ensures sound { IfOk result IsSound }
-    ensures running { IfOk result (λ k. IsRunning k.wheel) }
+    ensures serves { IfOk result (λ k. (g : Memory) → Serves k g) }
 {
     let k = Kernel::new(alloc).map_err(|_| "no memory")?;
-    if k.wheel.is_running() {
-        Ok(k)
-    } else {
-        Err("a timeout is late".into())
-    }
+    Ok(k)
 }
 
 fn memory(alloc: Global, areas: &[Area]) -> Result<Guard, Fail> {
@@ -173,7 +172,7 @@ fn add_module(k: &mut Kernel, g: &mut Guard, m: ModNo, shell: u32, data_base: u3
     requires { Serves k.old g.old }
     ensures { Serves k.new g.new }
 {
-    a_change_of_slots_keeps_sound();
+    a_change_of_slots_keeps_serving();
     if shell % 4 == 0 {
         let spot = Spot {
             shell,
@@ -229,6 +228,7 @@ fn ask(k: &mut Kernel, t: ThreadNo, service: u32, a: [u32; 3])
     ensures ready { k.new.ready ≡ k.old.ready }
     ensures waits { k.new.waits ≡ k.old.waits }
     ensures wheel { k.new.wheel ≡ k.old.wheel }
+    ensures serves { (g : Memory) → Serves k.old g → Serves k.new g }
 {
     a_kernel_stays_sound();
     let mut hart = *k.hart(t);
@@ -254,8 +254,7 @@ fn tick(k: &mut Kernel, g: &mut Guard) -> bool
 /// Nothing that has to hold of a kernel speaks of its clock.
 fn set_clock(k: &mut Kernel, clock: u32)
     requires { IsSound k.old }
-    ensures sound { IsSound k.new }
-    ensures wheel { k.new.wheel ≡ k.old.wheel }
+    ensures serves { (g : Memory) → Serves k.old g → Serves k.new g }
 {
     a_kernel_stays_sound();
     k.clock = clock;
@@ -263,8 +262,7 @@ fn set_clock(k: &mut Kernel, clock: u32)
 
 fn set(k: &mut Kernel, r: u8, value: u32) -> bool
     requires { IsSound k.old }
-    ensures sound { IsSound k.new }
-    ensures wheel { k.new.wheel ≡ k.old.wheel }
+    ensures serves { (g : Memory) → Serves k.old g → Serves k.new g }
 {
     a_kernel_stays_sound();
     let Some(t) = k.running() else {
@@ -277,8 +275,14 @@ fn set(k: &mut Kernel, r: u8, value: u32) -> bool
     may
 }
 
-fn store(g: &mut Guard, m: ModNo, a: u32, n: u32, word: u32) -> bool {
+/// A module stores the low bytes of a word, where it may.
+fn store(k: &Kernel, g: &mut Guard, m: ModNo, a: u32, n: u32, word: u32) -> bool
+    requires { Serves k.now g.old }
+    ensures { Serves k.now g.new }
+{
     let may = (n == 1 || n == 4) && g.may(m, Access::Store, a, n);
+    a_promised_result_may_be_stored();
+    let _ = &k;
     if may {
         g.put(m, a, n, word);
     }
@@ -323,20 +327,16 @@ fn fault(
 }
 
 fn reserve(k: &mut Kernel, m: ModNo) -> bool
-    requires { IsSound k.old }
-    ensures sound { IsSound k.new }
-    ensures wheel { k.new.wheel ≡ k.old.wheel }
+    ensures serves { (g : Memory) → Serves k.old g → Serves k.new g }
 {
-    a_change_of_slots_keeps_sound();
+    a_change_of_slots_keeps_serving();
     k.objects.allocate(m, Kind::Semaphore).is_some()
 }
 
 fn grant(k: &mut Kernel, m: ModNo, o: ObjNo) -> bool
-    requires { IsSound k.old }
-    ensures sound { IsSound k.new }
-    ensures wheel { k.new.wheel ≡ k.old.wheel }
+    ensures serves { (g : Memory) → Serves k.old g → Serves k.new g }
 {
-    a_change_of_slots_keeps_sound();
+    a_change_of_slots_keeps_serving();
     let is_live = k.objects.slot(o).is_in(SlotState::Live);
     if is_live {
         k.objects.grant(m, o);
