@@ -100,3 +100,15 @@ ends_by m n h g (Faults cause) is rest = (omega arith, is, λ same. cc)
 pub burst_ends : (m n : ℕ) (h : HartState) (g : Memory) → BurstEnds m n (burst m n h g)
 burst_ends m zero h g = refl
 burst_ends m (suc n) h g = ends_by m n h g (executed (seen m g) h) refl (burst_ends m n)
+
+-- a burst leaves the regions of memory
+burst_regions_by : (m n : ℕ) (h : HartState) (g : Memory) (e : Effect)
+    → ((next : HartState) (now : Memory) → (burst m n next now).memory.regions ≡ now.regions) → (burst_by (burst m n) h g e).memory.regions ≡ g.regions
+burst_regions_by m n h g (Completes next) rest = rest next g
+burst_regions_by m n h g (Stores a w value next) rest = rest next (with_number g a w value)
+burst_regions_by m n h g (Calls next) rest = refl
+burst_regions_by m n h g (Faults cause) rest = refl
+
+pub burst_regions : (m n : ℕ) (h : HartState) (g : Memory) → (burst m n h g).memory.regions ≡ g.regions
+burst_regions m zero h g = refl
+burst_regions m (suc n) h g = burst_regions_by m n h g (executed (seen m g) h) (burst_regions m n)

@@ -4,7 +4,8 @@ use Rattle.std.proofs.lemmas.Bool.{cond_both}
 use Rattle.rv_decode.specs.Decode.{decoded}
 use Rattle.rv_decode.specs.declared.Instr.{Instr}
 use Rattle.rv_decode.specs.declared.Instr.TheVariants.{Jal, Jalr, Beq, Bne, Blt, Bge, Bltu, Bgeu, Lb, Lh, Lw, Lbu, Lhu, Sb, Sh, Sw}
-use Rattle.rv_core.specs.Execute.{Effect, Completes, Stores, Calls, Faults, effect, effect_of_decoded, effect_of_fetched, executed, jumps, goes_to, branches, loads_by, stores, stores_by}
+use Rattle.rv_core.specs.Execute.{Effect, Completes, Stores, Calls, Faults, effect, effect_of_decoded, effect_of_fetched, executed, jumps, goes_to, branches}
+use Rattle.rv_core.specs.Execute.{loads_by, stores, stores_by}
 use Rattle.rv_core.specs.Memory.{Memory, fetch_answer}
 use Rattle.rv_core.specs.Hart.{HartState}
 use Rattle.rv_core.specs.declared.bus.Cause.{Cause}

@@ -11,7 +11,7 @@ use Rattle.soft_timers.specs.Timers.{TimerTable, no_timers}
 use Rattle.suspend_lists.specs.Laws.{HistoriesAccount, HistoriesCount, IsWhole}
 use Rattle.suspend_lists.specs.Waits.{WaitTable, new_table}
 use Rattle.board_core.specs.Boot.{all_started, booted_parts, loaded_modules, loaded_parts, one_started, spot_of, with_spots}
-use Rattle.board_core.specs.Laws.{BootBeginsNone, CountsAtMost}
+use Rattle.board_core.specs.Laws.{BootBeginsNone}
 use Rattle.board_core.specs.Trace.{AreTallied}
 use Rattle.board_core.specs.declared.parts.Parts.{Parts}
 

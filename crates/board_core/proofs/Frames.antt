@@ -16,42 +16,44 @@ use Rattle.board_file.specs.declared.board.Action.{Action}
 use Rattle.board_file.specs.declared.board.Action.TheVariants.{Resume, Tick}
 use Rattle.event_log.specs.Events.{Event, Step, Irq}
 use Rattle.kernel_state.specs.Kernel.{thread, module_of}
-use Rattle.kernel_state.specs.Laws.{RunningIsReady, ReadyIsThread}
+use Rattle.kernel_state.specs.Laws.{OneHartChanges, RunningIsReady, ReadyIsThread}
 use Rattle.kernel_state.specs.Outcome.{Outcome, found, unless}
 use Rattle.kernel_state.specs.declared.kernel.Kernel.{Kernel}
 use Rattle.kernel_state.specs.declared.thread.Thread.{Thread}
 use Rattle.thread_calls.specs.ThreadRows.{resumption, starting}
 use Rattle.kernel_state.specs.Range.{Range, WritesAlone}
 use Rattle.kernel_state.specs.Registers.{arguments, number_asked}
+use Rattle.kernel_state.specs.Results.{change_ranges}
 use Rattle.call_dispatch.specs.Ecall.{dispatched}
-use Rattle.call_dispatch.specs.Laws.{CallWritesItsResultAlone}
+use Rattle.call_dispatch.specs.Laws.{CallWritesResultsAlone}
 use Rattle.call_dispatch.specs.Services.{call_row}
 use Rattle.module_manager.specs.Laws.{HaltKeepsMemory}
 use Rattle.board_core.specs.Action.{acted, clock_advanced, device_of, resumed_by_name}
 use Rattle.board_core.specs.Bus.{seen}
-use Rattle.board_core.specs.Frame.{effect_frame, frame, step_frame}
+use Rattle.board_core.specs.Frame.{effect_ranges, frame, step_ranges}
 use Rattle.board_core.specs.Laws.{FrameLaw, IsWorld}
 use Rattle.board_core.specs.After.{after}
-use Rattle.board_core.specs.Step.{after_effect, after_fault, next_effect, stepped, stepped_by, with_hart}
+use Rattle.board_core.specs.Step.{after_effect, after_fault, effect_ends, next_effect, step_ends, stepped, stepped_by, with_hart}
 use Rattle.board_core.specs.World.{World}
 use Rattle.board_core.specs.declared.parts.Parts.{Parts}
 use Rattle.board_core.proofs.Effects.{IsAllowed, executed_allowed}
-use Rattle.board_core.proofs.Running.{running_below, thread-with_hart}
+use Rattle.board_core.proofs.Running.{running_below, serves-with_hart, thread-with_hart}
 use Rattle.board_core.proofs.Ticking.{tick_spares}
 
 -- the laws of the layers below
 pub record Lower : Type 0 where
   pub is_ready : RunningIsReady
   pub is_thread : ReadyIsThread
+  pub hart : OneHartChanges
   pub length_stays : LengthStays
   pub width : WidthIsLength
   pub outside_stays : BytesOutsideStay
   pub in_ram : UsedIsInRam
-  pub call : CallWritesItsResultAlone
+  pub call : CallWritesResultsAlone
   pub halt : HaltKeepsMemory
 
-nothing_changes : (g : Memory) → WritesAlone [] g g
-nothing_changes g = record { regions = refl; size = refl; bytes = λ x outside. refl }
+nothing_changes : (ranges : List Range) (g : Memory) → WritesAlone ranges g g
+nothing_changes ranges g = record { regions = refl; size = refl; bytes = λ x outside. refl }
 
 -- a store that is allowed
 stored_within : Lower → (g : Memory) (m a n value : ℕ) → IsSoundMemory g → 0 < n → may g m Store a n ≡ true
@@ -69,32 +71,39 @@ stored_within lower g m a n value sound some allowed =
     }
 
 -- a call
-dispatched_within : Lower → (w : World) (t : ℕ) (h : HartState) → IsWorld w → t < 256
-    → WritesAlone (effect_frame w.parts t (Calls h)) w.parts.memory (dispatched (with_hart w.parts.kernel t h) w.parts.memory t).change.memory
+call_within : Lower → (w : World) (t : ℕ) (h : HartState) → IsWorld w → w.parts.kernel.ready.run ≡ Some t → t < 256
+    → WritesAlone (change_ranges w.parts.kernel (effect_ends w.parts t (Calls h)) (effect_ranges w.parts t (Calls h))) w.parts.memory
+    (dispatched (with_hart w.parts.kernel t h) w.parts.memory t).change.memory
 unfolding dispatched
-dispatched_within lower w t h world below =
+call_within lower w t h world runs below =
     let k = with_hart w.parts.kernel t h in
+    let g = w.parts.memory in
     let same : (thread k t).hart ≡ h = ap (λ (u : Thread). u.hart) (thread-with_hart w.parts.kernel t h world.serves.sound below) in
+    let serves = serves-with_hart lower.hart w.parts.kernel g t h world.serves below in
     subst (λ (f : HartState).
-    WritesAlone (effect_frame w.parts t (Calls h)) w.parts.memory (call_row (number_asked f) k w.parts.memory t (arguments f)).change.memory)
-    (sym same) (lower.call k w.parts.memory t (number_asked h) (arguments h) world.memory)
+    let c = (call_row (number_asked f) k g t (arguments f)).change in
+    WritesAlone (change_ranges w.parts.kernel c.ends (effect_ranges w.parts t (Calls h))) g c.memory)
+    (sym same) (lower.call k g t (number_asked h) (arguments h) serves runs world.memory)
 
 -- a step
-effect_within : Lower → (w : World) (t : ℕ) (e : Effect) → IsWorld w → t < 256 → IsAllowed (seen (module_of w.parts.kernel t) w.parts.memory) e
-    → WritesAlone (effect_frame w.parts t e) w.parts.memory (after_effect w.parts t e).memory
+effect_within : Lower → (w : World) (t : ℕ) (e : Effect) → IsWorld w → w.parts.kernel.ready.run ≡ Some t → t < 256
+    → IsAllowed (seen (module_of w.parts.kernel t) w.parts.memory) e
+    → WritesAlone (change_ranges w.parts.kernel (effect_ends w.parts t e) (effect_ranges w.parts t e)) w.parts.memory (after_effect w.parts t e).memory
 unfolding after_fault
-effect_within lower w t (Completes h) world below allowed = nothing_changes w.parts.memory
-effect_within lower w t (Stores a n value h) world below allowed =
+effect_within lower w t (Completes h) world runs below allowed = nothing_changes [] w.parts.memory
+effect_within lower w t (Stores a n value h) world runs below allowed =
     stored_within lower w.parts.memory (module_of w.parts.kernel t) a n value world.memory allowed.0 allowed.1
-effect_within lower w t (Calls h) world below allowed = dispatched_within lower w t h world below
-effect_within lower w t (Faults cause) world below allowed =
-    subst (WritesAlone [] w.parts.memory) (sym (lower.halt w.parts.kernel w.parts.memory (module_of w.parts.kernel t))) (nothing_changes w.parts.memory)
+effect_within lower w t (Calls h) world runs below allowed = call_within lower w t h world runs below
+effect_within lower w t (Faults cause) world runs below allowed =
+    let ranges = change_ranges w.parts.kernel (effect_ends w.parts t (Faults cause)) [] in
+    subst (WritesAlone ranges w.parts.memory) (sym (lower.halt w.parts.kernel w.parts.memory (module_of w.parts.kernel t)))
+    (nothing_changes ranges w.parts.memory)
 
-pub step_within : Lower → (w : World) (run : Option ℕ) → IsWorld w → w.parts.kernel.ready.run ≡ run
-    → WritesAlone (step_frame w.parts run) w.parts.memory (stepped_by w.parts run).memory
-step_within lower w None world runs = nothing_changes w.parts.memory
+step_within : Lower → (w : World) (run : Option ℕ) → IsWorld w → w.parts.kernel.ready.run ≡ run
+    → WritesAlone (change_ranges w.parts.kernel (step_ends w.parts run) (step_ranges w.parts run)) w.parts.memory (stepped_by w.parts run).memory
+step_within lower w None world runs = nothing_changes [] w.parts.memory
 step_within lower w (Some t) world runs =
-    effect_within lower w t (next_effect w.parts t) world (running_below lower.is_ready lower.is_thread w.parts.kernel t world.serves.sound runs)
+    effect_within lower w t (next_effect w.parts t) world runs (running_below lower.is_ready lower.is_thread w.parts.kernel t world.serves.sound runs)
     (executed_allowed (seen (module_of w.parts.kernel t) w.parts.memory) (thread w.parts.kernel t).hart)
 
 -- an interrupt
@@ -122,8 +131,9 @@ pub event_within : Lower → (w : World) (e : Event) → IsWorld w → WritesAlo
 unfolding stepped
 event_within lower w Step world = step_within lower w w.parts.kernel.ready.run world refl
 event_within lower w (Irq d word) world =
-    subst (WritesAlone [] w.parts.memory) (sym (acted-memory w.parts (device_of w.board d).action (device_of w.board d).target word))
-    (nothing_changes w.parts.memory)
+    let ranges = frame w (Irq d word) in
+    subst (WritesAlone ranges w.parts.memory) (sym (acted-memory w.parts (device_of w.board d).action (device_of w.board d).target word))
+    (nothing_changes ranges w.parts.memory)
 
 pub frame_law : Lower → FrameLaw
 frame_law lower w e x world outside = (event_within lower w e world).bytes x outside

@@ -1,5 +1,6 @@
 -- Modules that were placed lie in memory, each in regions of its own.
-use Rattle.std.proofs.Common.{◌≡◌, ℕ, suc, ◌+◌, ◌%◌, ◌^◌, ◌<◌, ◌≤◌, false, true, List, [], ◌∷◌, length, map, get_or, replicate, zip, Option, Some, None, Result, Ok, Err, All, AllPairs, refl, ap, sym, subst, ◌∙◌, inl, inr, ⊎_elim, arith}
+use Rattle.std.proofs.Common.{◌≡◌, ℕ, suc, ◌+◌, ◌%◌, ◌^◌, ◌<◌, ◌≤◌, false, true, List, [], ◌∷◌, length, map, get_or, replicate, zip, Option, Some, None, Result}
+use Rattle.std.proofs.Common.{Ok, Err, All, AllPairs, refl, ap, sym, subst, ◌∙◌, inl, inr, ⊎_elim, arith}
 use Rattle.std.proofs.lemmas.List.{get_or-map, length-map, length-replicate}
 use Rattle.std.proofs.lemmas.List.Elements.{All-contains, All-cons, All-head, All-map, All-nil, All-tail, All-weaker}
 use Rattle.flat_ram.specs.Laws.{LengthStays}

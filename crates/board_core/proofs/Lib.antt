@@ -12,6 +12,7 @@ pub mod Laid
 pub mod Lists
 pub mod Loaded
 pub mod LoadingSteps
+pub mod MadeSteps
 pub mod ModuleRegions
 pub mod Names
 pub mod Owned
@@ -23,6 +24,7 @@ pub mod PlacedBoard
 pub mod Preambles
 pub mod Printing
 pub mod Regions
+pub mod ResultRanges
 pub mod Running
 pub mod Spared
 pub mod Standing
@@ -30,6 +32,5 @@ pub mod Starting
 pub mod Steps
 pub mod Ticking
 pub mod Traces
-pub mod MadeSteps
 pub mod Waits
 pub mod Writes

@@ -1,5 +1,6 @@
 -- Steps that are made at once are as many steps of the written machine: a burst, one instruction after another, and what is after it.
-use Rattle.std.proofs.Common.{◌≡◌, ℕ, zero, suc, ◌+◌, ◌-◌, ◌<◌, ◌≤◌, List, [], ◌∷◌, length, All, replicate, Option, None, Some, refl, sym, ap, ◌∙◌, subst, one-add, arith}
+use Rattle.std.proofs.Common.{◌≡◌, ℕ, zero, suc, ◌+◌, ◌-◌, ◌<◌, ◌≤◌, List, [], ◌∷◌, length, All, replicate, Option, None, Some, refl, sym, ap, ◌∙◌, subst}
+use Rattle.std.proofs.Common.{one-add, arith}
 use Rattle.std.proofs.lemmas.List.{replicate_more}
 use Rattle.std.proofs.lemmas.List.Elements.{All-weaker}
 use Rattle.board_file.specs.declared.board.Board.{Board}
@@ -11,6 +12,7 @@ use Rattle.kernel_state.specs.Kernel.{thread, module_of}
 use Rattle.kernel_state.specs.Laws.{OneHartChanges, RunningIsReady, ReadyIsThread}
 use Rattle.kernel_state.specs.Serves.{Serves}
 use Rattle.kernel_state.specs.Sound.{IsSound}
+use Rattle.kernel_state.specs.WaitLaws.{PromisesStay}
 use Rattle.kernel_state.specs.declared.kernel.Kernel.{Kernel}
 use Rattle.kernel_state.specs.declared.thread.Thread.{Thread}
 use Rattle.machine_words.specs.Number.{low_bytes}
@@ -23,12 +25,12 @@ use Rattle.board_core.specs.Bus.{seen}
 use Rattle.board_core.specs.Laws.{IsWorld}
 use Rattle.board_core.specs.Machine.{shown}
 use Rattle.board_core.specs.After.{after}
-use Rattle.board_core.specs.Step.{after_effect, next_effect, ran_on}
+use Rattle.board_core.specs.Step.{after_effect, next_effect, ran_on, with_hart}
 use Rattle.board_core.specs.World.{World}
 use Rattle.board_core.specs.declared.devices.Device.{Device}
 use Rattle.board_core.specs.declared.parts.Parts.{Parts}
 use Rattle.board_core.proofs.BurstSteps.{Ends, burst_ends}
-use Rattle.board_core.proofs.Running.{running_below, stepped_idle, stepped_is, thread-with_hart}
+use Rattle.board_core.proofs.Running.{running_below, serves-with_hart, serves_over, stepped_idle, stepped_is, thread-with_hart}
 use Rattle.board_core.proofs.Standing.{Keeps, Laws as EventLaws, Leads, counted, effect_count, effect_devices, event_leads, leads_on, nothing_leads}
 use Rattle.board_core.proofs.Steps.{with_hart-same, with_hart-twice}
 
@@ -38,6 +40,7 @@ pub record Laws : Type 0 where
   pub is_thread : ReadyIsThread
   pub hart : OneHartChanges
   pub lengths : LengthStays
+  pub promises : PromisesStay
   pub events : EventLaws
 
 -- memory stays sound where its bytes change and stay as many
@@ -79,7 +82,8 @@ module _ (laws : Laws) (w : World) (t : ℕ) (world : IsWorld w) (runs : w.parts
       event_leads laws.events w (after_run w t 1 h (record w.parts.memory { bytes = bytes })) Step world is
       (record {
         board = world.board;
-        serves = record { sound = laws.hart w.parts.kernel t h world.serves.sound below; running = world.serves.running };
+        serves = serves_over laws.promises (with_hart w.parts.kernel t h) w.parts.memory (record w.parts.memory { bytes = bytes }) refl
+            (serves-with_hart laws.hart w.parts.kernel w.parts.memory t h world.serves below);
         memory = sound_bytes w.parts.memory bytes world.memory size;
         modules = world.modules;
         devices = world.devices;

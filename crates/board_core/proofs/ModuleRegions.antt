@@ -1,5 +1,6 @@
 -- The regions of modules by their numbers: that of module k's code is number 2 k, and that of its data the next.
-use Rattle.std.proofs.Common.{◌≡◌, ◌⊎◌, ℕ, zero, suc, ◌+◌, ◌*◌, ◌/◌, ◌%◌, ◌^◌, ◌<◌, ◌≤◌, ◌==◌, ◌&&◌, Bool, false, true, List, [], ◌∷◌, length, get_or, nat_le, nat_lt, All, AllPairs, refl, ap, sym, subst, ◌∙◌, inl, inr, ⊎_elim, arith}
+use Rattle.std.proofs.Common.{◌≡◌, ◌⊎◌, ℕ, zero, suc, ◌+◌, ◌*◌, ◌/◌, ◌%◌, ◌^◌, ◌<◌, ◌≤◌, ◌==◌, ◌&&◌, Bool, false, true, List, [], ◌∷◌, length, get_or, nat_le}
+use Rattle.std.proofs.Common.{nat_lt, All, AllPairs, refl, ap, sym, subst, ◌∙◌, inl, inr, ⊎_elim, arith}
 use Rattle.std.proofs.lemmas.Bool.{cases_lt, and_cases, and_from, and_left, and_right, eq-eqb, le-leb, le-ltb, ltb-false, or_right}
 use Rattle.std.proofs.lemmas.List.Folds.{list_any_at}
 use Rattle.std.proofs.lemmas.Nat.{shl-shr}

@@ -9,7 +9,8 @@ use Rattle.board_file.specs.declared.board.Action.TheVariants.{Resume, Tick}
 use Rattle.event_log.specs.Events.{Step, Irq}
 use Rattle.call_dispatch.specs.Laws.{CallChangesSlotsOnce}
 use Rattle.kernel_state.specs.Kernel.{is_thread, module_of, thread}
-use Rattle.kernel_state.specs.Laws.{ReadyIsThread, RunningIsReady}
+use Rattle.kernel_state.specs.Laws.{OneHartChanges, ReadyIsThread, RunningIsReady}
+use Rattle.kernel_state.specs.ObjectLaws.{RemovedChangesOne}
 use Rattle.kernel_state.specs.Sound.{IsEntry, IsSound, IsThread}
 use Rattle.kernel_state.specs.declared.kernel.Kernel.{Kernel}
 use Rattle.kernel_state.specs.declared.thread.Thread.{Thread}
@@ -31,14 +32,16 @@ use Rattle.board_core.specs.World.{World}
 use Rattle.board_core.proofs.OwnedCalls.{Owned, dispatched_owned, found_owned, resumption_owned}
 use Rattle.board_core.proofs.OwnedHalt.{fault_owned}
 use Rattle.board_core.proofs.OwnedSlots.{owned_at}
-use Rattle.board_core.proofs.Running.{running_below, stepped_is, thread-with_hart}
+use Rattle.board_core.proofs.Running.{running_below, serves-with_hart, stepped_is, thread-with_hart}
 use Rattle.board_core.proofs.Ticking.{tick_spares}
 
 -- the laws of the layers below
 pub record Lower : Type 0 where
   pub is_ready : RunningIsReady
   pub is_thread : ReadyIsThread
+  pub hart : OneHartChanges
   pub slots : CallChangesSlotsOnce
+  pub removed : RemovedChangesOne
   pub no_slots : HaltEndsSlots
   pub no_grants : HaltEndsGrants
 
@@ -53,7 +56,8 @@ thread_started ms k t sound owned below is =
 
 pub runner_is_started : Lower → RunnerIsStarted
 runner_is_started lower w t world runs =
-    thread_started w.parts.modules w.parts.kernel t world.serves.sound world.owned (running_below lower.is_ready lower.is_thread w.parts.kernel t world.serves.sound runs)
+    thread_started w.parts.modules w.parts.kernel t world.serves.sound world.owned
+    (running_below lower.is_ready lower.is_thread w.parts.kernel t world.serves.sound runs)
     (lower.is_thread w.parts.kernel t world.serves.sound (lower.is_ready w.parts.kernel t world.serves.sound runs))
 
 -- a step
@@ -68,10 +72,12 @@ effect_owned lower w t (Calls h) world runs =
     let below = running_below lower.is_ready lower.is_thread w.parts.kernel t world.serves.sound runs in
     let same : module_of (with_hart w.parts.kernel t h) t ≡ module_of w.parts.kernel t =
     ap (λ (u : Thread). u.module) (thread-with_hart w.parts.kernel t h world.serves.sound below) in
-    dispatched_owned lower.slots w.parts.modules (with_hart w.parts.kernel t h) w.parts.memory t world.owned
+    dispatched_owned lower.slots w.parts.modules (with_hart w.parts.kernel t h) w.parts.memory t
+    (serves-with_hart lower.hart w.parts.kernel w.parts.memory t h world.serves below) runs world.owned
     (subst (IsStarted w.parts.modules) (sym same) (runner_is_started lower w t world runs))
 effect_owned lower w t (Faults cause) world runs =
-    fault_owned lower.no_slots lower.no_grants w.parts.modules w.parts.kernel w.parts.memory (module_of w.parts.kernel t) _ world.serves.sound world.owned
+    fault_owned lower.removed lower.no_slots lower.no_grants w.parts.modules w.parts.kernel w.parts.memory
+    (module_of w.parts.kernel t) _ world.serves.sound world.owned
 
 step_owned : Lower → (w : World) (run : Option ℕ) → IsWorld w → w.parts.kernel.ready.run ≡ run → OwnedParts (stepped_by w.parts run)
 step_owned lower w None world runs = world.owned

@@ -11,6 +11,7 @@ use Rattle.kernel_state.specs.Change.{Change, quiet}
 use Rattle.kernel_state.specs.Kernel.{thread, module_of}
 use Rattle.kernel_state.specs.Outcome.{Outcome, found, unless}
 use Rattle.kernel_state.specs.Row.{IsCallFor, MayMake, slots_after}
+use Rattle.kernel_state.specs.Serves.{Serves}
 use Rattle.kernel_state.specs.Thread.{is_over, is_waiting}
 use Rattle.kernel_state.specs.ThreadChanges.{ended, over_by}
 use Rattle.kernel_state.specs.Waiting.{wait_ended}
@@ -69,8 +70,8 @@ after_owned : (ms : List Module) (slots : List Slot) (m : ℕ) (c : Option Call)
 after_owned ms slots m None may all started = all
 after_owned ms slots m (Some c) may all started = made_owned ms slots m c may.0 may.1 all started
 
-pub dispatched_owned : CallChangesSlotsOnce → (ms : List Module) (k : Kernel) (g : Memory) (t : ℕ) → Owned ms k → IsStarted ms (module_of k t)
-    → OwnedAfter ms (dispatched k g t)
-dispatched_owned once ms k g t before started =
-    let kept = once k g t in
+pub dispatched_owned : CallChangesSlotsOnce → (ms : List Module) (k : Kernel) (g : Memory) (t : ℕ) → Serves k g → k.ready.run ≡ Some t → Owned ms k
+    → IsStarted ms (module_of k t) → OwnedAfter ms (dispatched k g t)
+dispatched_owned once ms k g t serves runs before started =
+    let kept = once k g t serves runs in
     subst (AreOwned ms) (sym kept.slots) (after_owned ms k.objects (module_of k t) kept.call kept.may before started)

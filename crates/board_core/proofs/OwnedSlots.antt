@@ -1,5 +1,6 @@
 -- A change of a slot leaves used slots with started modules.
-use Rattle.std.proofs.Common.{◌≡◌, ◌≢◌, ◌⊎◌, ℕ, ◌-◌, ◌^◌, ◌==◌, true, false, List, [], length, Option, None, Some, bit_or, refl, sym, ap, ◌∙◌, subst, ⊎_elim, inl, inr}
+use Rattle.std.proofs.Common.{◌≡◌, ◌≢◌, ◌⊎◌, ℕ, ◌-◌, ◌^◌, ◌==◌, true, false, List, [], length, Option, None, Some, bit_or, refl, sym, ap, ◌∙◌, subst, ⊎_elim}
+use Rattle.std.proofs.Common.{inl, inr}
 use Rattle.std.proofs.lemmas.Bool.{cases_lt, cond_both, eqb-true, false≢true}
 use Rattle.std.proofs.lemmas.Bool.Decides.{eqb_tells}
 use Rattle.std.proofs.lemmas.List.{get_or_past}
@@ -9,7 +10,8 @@ use Rattle.std.specs.Int.{bit_at}
 use Rattle.tx_types.specs.declared.kind.Kind.{Kind}
 use Rattle.module_manager.specs.declared.modules.Module.{Module}
 use Rattle.object_grants.specs.Slot.{free_slot, is_granted, is_in, is_own_empty, slot_state_number, without_grant}
-use Rattle.object_grants.specs.Table.{after_allocate, after_deallocate, after_free, after_grant, after_make_empty, after_make_live, after_revoke, allocated, allocated_at, named, slot, with_slot}
+use Rattle.object_grants.specs.Table.{after_allocate, after_deallocate, after_free, after_grant, after_make_empty, after_make_live, after_revoke, allocated}
+use Rattle.object_grants.specs.Table.{allocated_at, named, slot, with_slot}
 use Rattle.object_grants.specs.declared.slot.Slot.{Slot}
 use Rattle.object_grants.specs.declared.slot.SlotState.{SlotState}
 use Rattle.object_grants.specs.declared.slot.SlotState.TheVariants.{Free, Empty}

@@ -1,5 +1,6 @@
 -- A start gives its module the slots that it takes, and booted modules have started modules' slots alone.
-use Rattle.std.proofs.Common.{◌≡◌, ℕ, suc, ◌+◌, ◌<◌, ◌≤◌, Bool, true, false, cond, not, nat_le, nat_lt, List, [], ◌∷◌, length, filter, Some, None, position, replicate, slice_set, refl, sym, ap, ◌∙◌, subst, ⊎_elim, arith}
+use Rattle.std.proofs.Common.{◌≡◌, ℕ, suc, ◌+◌, ◌<◌, ◌≤◌, Bool, true, false, cond, not, nat_le, nat_lt, List, [], ◌∷◌, length, filter, Some, None, position}
+use Rattle.std.proofs.Common.{replicate, slice_set, refl, sym, ap, ◌∙◌, subst, ⊎_elim, arith}
 use Rattle.std.proofs.lemmas.Bool.{and_parts, cond-true, cond_both, leb-true, lt-ltb}
 use Rattle.std.proofs.lemmas.List.{get_or-set_other, get_or-set_same, length-set, set-set}
 use Rattle.std.proofs.lemmas.List.Elements.{All-replicate, All-weaker}
@@ -14,7 +15,8 @@ use Rattle.kernel_state.specs.declared.kernel.Kernel.{Kernel}
 use Rattle.kernel_state.specs.declared.thread.ThreadSpec.{ThreadSpec}
 use Rattle.kernel_state.specs.Kernel.{blank_kernel}
 use Rattle.module_manager.specs.Modules.{may_start, module_at, with_state}
-use Rattle.module_manager.specs.Start.{StartOutcome, begun, begun_alone, begun_both, callback_name, callback_spec, can_start, in_new_slot, next_slot, slots_needed, start_name, start_row, start_spec, usable_slots, zeroed}
+use Rattle.module_manager.specs.Start.{StartOutcome, begun, begun_alone, begun_both, callback_name, callback_spec, can_start, in_new_slot, next_slot}
+use Rattle.module_manager.specs.Start.{slots_needed, start_name, start_row, start_spec, usable_slots, zeroed}
 use Rattle.module_manager.specs.declared.modules.Module.{Module}
 use Rattle.module_manager.specs.declared.modules.ModuleState.TheVariants.{Started}
 use Rattle.module_preamble.specs.Words.{has_callback}
@@ -85,11 +87,13 @@ another_usable k name s two =
     subst (λ (slots : List Slot). 1 ≤ length (filter is_usable slots)) (sym stays) (omega (arith, second, two))
 
 -- a start
-alone_owned : (ms : List Module) (k : Kernel) (g : Memory) (m : ℕ) (r : Module) → 1 ≤ usable_slots k → Owned ms k → IsStarted ms m → Owned ms (begun_alone k g m r).kernel
+alone_owned : (ms : List Module) (k : Kernel) (g : Memory) (m : ℕ) (r : Module) → 1 ≤ usable_slots k → Owned ms k → IsStarted ms m
+    → Owned ms (begun_alone k g m r).kernel
 unfolding begun_alone
 alone_owned ms k g m r some before started = placed_owned ms k start_name (start_spec m r) some before started
 
-both_owned : (ms : List Module) (k : Kernel) (g : Memory) (m : ℕ) (r : Module) → 2 ≤ usable_slots k → Owned ms k → IsStarted ms m → Owned ms (begun_both k g m r).kernel
+both_owned : (ms : List Module) (k : Kernel) (g : Memory) (m : ℕ) (r : Module) → 2 ≤ usable_slots k → Owned ms k → IsStarted ms m
+    → Owned ms (begun_both k g m r).kernel
 unfolding begun_both
 both_owned ms k g m r two before started =
     let one = in_new_slot k start_name (start_spec m r) in

@@ -1,23 +1,22 @@
 -- What the report on a world has of each kind fits a printed report.
-use Rattle.std.proofs.Common.{◌≡◌, ◌≢◌, ℕ, zero, suc, ◌<◌, ◌≤◌, ◌+◌, ◌*◌, ◌==◌, true, false, not, List, [], ◌∷◌, length, filter, All, AllPairs, None, Some, IfSome, arith, ap, subst, refl}
-use Rattle.std.proofs.lemmas.Bool.{cond_both, eqb-false, eqb-true, ne_eqb, not-true}
-use Rattle.std.proofs.lemmas.List.Elements.{All-filter, All-head, All-nil, filter_passes}
+use Rattle.std.proofs.Common.{◌≡◌, ◌≢◌, ℕ, zero, suc, ◌<◌, ◌≤◌, ◌+◌, ◌*◌, ◌==◌, true, false, not, List, [], ◌∷◌, length, filter, All, AllPairs, None, Some}
+use Rattle.std.proofs.Common.{IfSome, Option, arith, ap, subst, refl}
+use Rattle.std.proofs.lemmas.Bool.{eqb-false, eqb-true, ne_eqb, not-true}
+use Rattle.std.proofs.lemmas.List.Elements.{All-filter, All-head, filter_passes}
 use Rattle.std.proofs.lemmas.List.Kept.{AllPairs-filter}
 use Rattle.board_report.specs.Printable.{IsNumbers, IsPrintable}
 use Rattle.board_values.specs.declared.report.ObjectRow.{ObjectRow}
 use Rattle.board_values.specs.declared.report.ShowRow.{ShowRow}
 use Rattle.board_values.specs.declared.report.ThreadRow.{ThreadRow}
-use Rattle.kernel_state.specs.ObjectReport.{has_object, object_row, row_of_slot}
-use Rattle.kernel_state.specs.declared.kernel.Kernel.{Kernel}
+use Rattle.kernel_state.specs.ObjectReport.{object_row}
 use Rattle.module_manager.specs.Modules.{module_at}
-use Rattle.object_grants.specs.Table.{slot}
 use Rattle.ready_maps.specs.Kept.{IsKept}
 use Rattle.ready_maps.specs.Sched.{Sched, pr}
 use Rattle.board_file.specs.Rules.{IsShow}
 use Rattle.board_core.specs.Laws.{IsWorld}
 use Rattle.board_core.specs.Report.{device_row, module_row, report_of, show_at, show_cell, show_row, rows_found, thread_row}
 use Rattle.board_core.specs.World.{World}
-use Rattle.board_core.proofs.Lists.{All-rows_below, All-rows_found, length-rows_below, length-rows_found}
+use Rattle.board_core.proofs.Lists.{All-rows_below, length-rows_below, length-rows_found}
 
 -- the others of a list
 abbrev others : ℕ → List ℕ → List ℕ
@@ -73,13 +72,11 @@ held_numbers s kept small =
     omega (arith, climbs, equal) in
     record { few = pigeonhole 256 s.held small distinct; small = small }
 
--- nobody waits for an object yet
-object_waits : (k : Kernel) (o : ℕ) → IfSome (object_row k o) (λ (r : ObjectRow). IsNumbers r.waits)
-unfolding object_row
-object_waits k o =
-    cond_both (has_object (slot k.objects o)) (Some (row_of_slot o (slot k.objects o))) None
-    (λ x. IfSome x (λ (r : ObjectRow). IsNumbers r.waits))
-    (λ _. record { few = omega arith; small = All-nil (λ n. n < 256) }) (λ _. tt)
+-- the waiters of a row, where there is one
+pub some_numbers : (row : Option ObjectRow) → IfSome row (λ (r : ObjectRow). length r.waits ≤ 256)
+    → IfSome row (λ (r : ObjectRow). All (λ n. n < 256) r.waits) → IfSome row (λ (r : ObjectRow). IsNumbers r.waits)
+some_numbers None few small = tt
+some_numbers (Some r) few small = record { few = few; small = small }
 
 few_cells : (w : World) → IsWorld w → (i : ℕ) → i < length w.board.shows → length (show_row w.board w.parts.memory w.parts.modules i).cells ≤ 64
 few_cells w world i low =
@@ -87,18 +84,19 @@ few_cells w world i low =
     let show : IsShow (length w.board.modules) s = world.board.shown i _ low in
     omega (arith, length-rows_below s.words (λ j. show_cell w.parts.memory (module_at w.parts.modules s.module) (s.offset + 4 * j)), show.few_words)
 
--- the report on a world, where its holders have their numbers and its threads their registers
+-- the report on a world, where its holders and the waiters of its objects have their numbers, and its threads their registers
 pub report_is_printable : (w : World) → IsWorld w → All (λ n. n < 256) w.parts.kernel.ready.held
-    → All (λ (t : ThreadRow). length t.regs ≡ 31) (rows_found (length w.parts.kernel.objects) (thread_row w.parts.kernel)) → IsPrintable (report_of w)
+    → All (λ (t : ThreadRow). length t.regs ≡ 31) (rows_found (length w.parts.kernel.objects) (thread_row w.parts.kernel))
+    → All (λ (o : ObjectRow). IsNumbers o.waits) (rows_found (length w.parts.kernel.objects) (object_row w.parts.kernel)) → IsPrintable (report_of w)
 unfolding report_of
-report_is_printable w world small regs = record {
+report_is_printable w world small regs waits = record {
   held = held_numbers w.parts.kernel.ready world.serves.sound.formed.scheduler small;
   ready = ready_numbers w.parts.kernel.ready world.serves.sound.formed.scheduler;
   modules = omega (arith, length-rows_below (length w.parts.modules) (module_row w.board w.parts.modules), world.modules, world.board.modules);
   threads = omega (arith, length-rows_found (length w.parts.kernel.objects) (thread_row w.parts.kernel), world.serves.sound.formed.slots);
   regs = regs;
   objects = omega (arith, length-rows_found (length w.parts.kernel.objects) (object_row w.parts.kernel), world.serves.sound.formed.slots);
-  waits = All-rows_found (λ (r : ObjectRow). IsNumbers r.waits) (length w.parts.kernel.objects) (object_row w.parts.kernel) (object_waits w.parts.kernel);
+  waits = waits;
   devices = omega (arith, length-rows_below (length w.parts.devices) (device_row w.board w.parts.devices), world.devices, world.board.devices);
   shows = omega (arith, length-rows_below (length w.board.shows) (show_row w.board w.parts.memory w.parts.modules), world.board.shows);
   cells = All-rows_below (λ (s : ShowRow). length s.cells ≤ 64) (length w.board.shows) (show_row w.board w.parts.memory w.parts.modules) (few_cells w world);

@@ -1,13 +1,14 @@
 -- What no event writes: code, the data of a module whose thread doesn't run, and by a fault nothing.
-use Rattle.std.proofs.Common.{◌≡◌, ◌≢◌, ◌⊎◌, ℕ, ◌+◌, ◌<◌, ◌≤◌, ◌==◌, ◌&&◌, Bool, true, false, nat_le, nat_lt, List, [], ◌∷◌, length, Option, None, Some, All, refl, sym, ap, ◌∙◌, subst, ⊎_elim, inl, inr, get_or, arith}
+use Rattle.std.proofs.Common.{◌≡◌, ◌≢◌, ◌⊎◌, ℕ, ◌+◌, ◌<◌, ◌≤◌, ◌==◌, ◌&&◌, Bool, true, false, nat_le, nat_lt, List, [], ◌∷◌, length, Option, None, Some, All}
+use Rattle.std.proofs.Common.{refl, sym, ap, ◌∙◌, subst, ⊎_elim, inl, inr, get_or, arith}
 use Rattle.std.proofs.lemmas.Bool.{and_cases, and_from, and_parts, cases_lt, cases_order, eqb-true, false≢true, leb-true, ltb-false, or_cases}
 use Rattle.std.proofs.lemmas.List.{get_or_default}
-use Rattle.std.proofs.lemmas.List.Elements.{All-cons, All-nil, filter_passes}
+use Rattle.std.proofs.lemmas.List.Elements.{All-append, All-cons, All-nil, Contains-append_cases, filter_passes}
 use Rattle.std.proofs.lemmas.List.Folds.{Any-from_list_any}
 use Rattle.std.proofs.lemmas.Nat.Bits.{bit_at-pow_other}
 use Rattle.std.specs.List.{Contains, list_any}
 use Rattle.flat_ram.specs.Laws.{IsOutside}
-use Rattle.region_guard.specs.Memory.{Memory, IsSound as IsSoundMemory, byte, may}
+use Rattle.region_guard.specs.Memory.{Memory, IsSound as IsSoundMemory, may}
 use Rattle.region_guard.specs.Region.{covers, gives, is_for, lets, meets}
 use Rattle.region_guard.specs.declared.region.Access.TheVariants.{Store}
 use Rattle.region_guard.specs.declared.region.Region.{Region}
@@ -20,20 +21,23 @@ use Rattle.kernel_state.specs.Thread.{is_over}
 use Rattle.kernel_state.specs.declared.thread.Thread.{Thread}
 use Rattle.kernel_state.specs.Registers.{arguments, number_asked}
 use Rattle.kernel_state.specs.Range.{IsOutsideAll, Range}
+use Rattle.kernel_state.specs.Results.{result_ranges}
 use Rattle.call_dispatch.specs.Services.{row_asked, row_writes}
 use Rattle.module_manager.specs.Laws.{HaltSparesThreads}
 use Rattle.module_manager.specs.Modules.{module_at}
 use Rattle.board_core.specs.Boot.{code_region, data_region}
 use Rattle.board_core.specs.Bus.{seen}
-use Rattle.board_core.specs.Frame.{effect_frame, frame, step_frame}
-use Rattle.board_core.specs.Laws.{CodeIsInNoFrame, DataIsItsModules, FaultKeepsBytes, FaultSparesOthers, IsDataOf, IsWorld, Writes}
-use Rattle.board_core.specs.Step.{after_effect, stepped, stepped_by, after_fault, next_effect, with_hart}
+use Rattle.board_core.specs.Frame.{effect_ranges, frame, own_ranges, step_ranges}
+use Rattle.board_core.specs.Laws.{CodeIsInNoFrame, DataIsItsModules, FaultKeepsBytes, FaultSparesOthers, IsDataOf, IsResultOf, IsWorld, IsWriteOf, Writes}
+use Rattle.board_core.specs.Step.{after_fault, next_effect, with_hart}
+use Rattle.board_core.specs.Trace.{ends}
 use Rattle.board_core.specs.declared.parts.Parts.{Parts}
 use Rattle.board_core.specs.World.{World}
 use Rattle.board_core.proofs.Effects.{IsAllowed, executed_allowed}
-use Rattle.board_core.proofs.Frames.{Lower, event_within, step_within}
+use Rattle.board_core.proofs.Frames.{Lower, event_within}
 use Rattle.board_core.proofs.OwnedSlots.{same_or_other}
 use Rattle.board_core.proofs.Regions.{module_stands}
+use Rattle.board_core.proofs.ResultRanges.{All-contained, All-from_contains, IsIn, contains_none, in_or_outside, in_results, its_range, result_stored}
 use Rattle.board_core.proofs.Running.{running_below, stepped_is, thread-with_hart}
 
 -- one region ends before the other begins
@@ -103,26 +107,26 @@ one_stored : (g : Memory) (m : ℕ) (r : Range) → may g m Store r.base r.size 
 one_stored g m r allowed = All-cons (λ (s : Range). may g m Store s.base s.size ≡ true) r [] allowed (none_stored g m)
 
 call_stored : (w : World) (t : ℕ) (h : HartState) → IsWorld w → t < 256
-    → MayStore w.parts.memory (module_of w.parts.kernel t) (effect_frame w.parts t (Calls h))
+    → MayStore w.parts.memory (module_of w.parts.kernel t) (effect_ranges w.parts t (Calls h))
 call_stored w t h world below =
     let k = with_hart w.parts.kernel t h in
     let g = w.parts.memory in
     let m = module_of k t in
     let same : m ≡ module_of w.parts.kernel t = ap (λ (u : Thread). u.module) (thread-with_hart w.parts.kernel t h world.serves.sound below) in
-    subst (λ m. MayStore g m (effect_frame w.parts t (Calls h))) same
+    subst (λ m. MayStore g m (effect_ranges w.parts t (Calls h))) same
     (filter_passes (λ r. may g m Store r.base r.size) (row_writes (row_asked (number_asked h)) k t (arguments h)))
 
 effect_stored : (w : World) (t : ℕ) (e : Effect) → IsWorld w → t < 256 → IsAllowed (seen (module_of w.parts.kernel t) w.parts.memory) e
-    → MayStore w.parts.memory (module_of w.parts.kernel t) (effect_frame w.parts t e)
+    → MayStore w.parts.memory (module_of w.parts.kernel t) (effect_ranges w.parts t e)
 effect_stored w t (Completes h) world below allowed = none_stored w.parts.memory (module_of w.parts.kernel t)
 effect_stored w t (Stores a n value h) world below allowed = one_stored w.parts.memory (module_of w.parts.kernel t) (record { base = a; size = n }) allowed.1
 effect_stored w t (Calls h) world below allowed = call_stored w t h world below
 effect_stored w t (Faults cause) world below allowed = none_stored w.parts.memory (module_of w.parts.kernel t)
 
--- an address of a region that gives the running thread's module no store is in no frame
+-- an address of a region that gives the running thread's module no store is in no range of a step
 step_spares : RunningIsReady → ReadyIsThread → (w : World) (run : Option ℕ) (r : Region) (x : ℕ) → IsWorld w → w.parts.kernel.ready.run ≡ run
     → Contains w.parts.memory.regions r → ((t : ℕ) → run ≡ Some t → lets_store (module_of w.parts.kernel t) r ≡ false)
-    → r.base ≤ x → x < r.base + r.size → IsOutsideAll (step_frame w.parts run) x
+    → r.base ≤ x → x < r.base + r.size → IsOutsideAll (step_ranges w.parts run) x
 step_spares is_ready is_thread w None r x world runs stands no_store from to = All-nil (λ (s : Range). IsOutside s.base s.size x)
 step_spares is_ready is_thread w (Some t) r x world runs stands no_store from to =
     let m = module_of w.parts.kernel t in
@@ -130,12 +134,22 @@ step_spares is_ready is_thread w (Some t) r x world runs stands no_store from to
     let stored = effect_stored w t (next_effect w.parts t) world below (executed_allowed (seen m w.parts.memory) (thread w.parts.kernel t).hart) in
     λ k d within. region_is_outside w.parts.memory m _ _ x r world.memory (stored k d within) stands (no_store t refl) from to
 
-event_spares : RunningIsReady → ReadyIsThread → (w : World) (e : Event) (r : Region) (x : ℕ) → IsWorld w
+own_spares : RunningIsReady → ReadyIsThread → (w : World) (e : Event) (r : Region) (x : ℕ) → IsWorld w
     → Contains w.parts.memory.regions r → ((t : ℕ) → w.parts.kernel.ready.run ≡ Some t → lets_store (module_of w.parts.kernel t) r ≡ false)
-    → r.base ≤ x → x < r.base + r.size → IsOutsideAll (frame w e) x
-event_spares is_ready is_thread w Step r x world stands no_store from to =
+    → r.base ≤ x → x < r.base + r.size → IsOutsideAll (own_ranges w e) x
+own_spares is_ready is_thread w Step r x world stands no_store from to =
     step_spares is_ready is_thread w w.parts.kernel.ready.run r x world refl stands no_store from to
-event_spares is_ready is_thread w (Irq d word) r x world stands no_store from to = All-nil (λ (s : Range). IsOutside s.base s.size x)
+own_spares is_ready is_thread w (Irq d word) r x world stands no_store from to = All-nil (λ (s : Range). IsOutside s.base s.size x)
+
+-- and where the region gives no module a store, it is in no result
+results_spare : (w : World) (e : Event) (r : Region) (x : ℕ) → IsWorld w → Contains w.parts.memory.regions r → ((m : ℕ) → lets_store m r ≡ false)
+    → r.base ≤ x → x < r.base + r.size → IsOutsideAll (result_ranges w.parts.kernel (ends w e)) x
+results_spare w e r x world stands no_store from to =
+    let k = w.parts.kernel in
+    All-from_contains (λ (s : Range). IsOutside s.base s.size x) (result_ranges k (ends w e)) (λ s among.
+    let result = in_results k (ends w e) s among in
+    let stored = result_stored k w.parts.memory (ends w e) s world.serves result in
+    region_is_outside w.parts.memory (module_of k result.waiter) s.base s.size x r world.memory stored stands (no_store (module_of k result.waiter)) from to)
 
 -- the regions of a module in memory
 pub module_in_memory : (w : World) (m : ℕ) → IsWorld w → m < length w.parts.modules
@@ -147,50 +161,84 @@ module_in_memory w m world below =
 
 pub code_is_in_no_frame : RunningIsReady → ReadyIsThread → CodeIsInNoFrame
 code_is_in_no_frame is_ready is_thread w e m x world code =
-    event_spares is_ready is_thread w e (code_region m (module_at w.parts.modules m)) x world (module_in_memory w m world code.0).0
-    (λ t runs. refl) code.1 code.2
+    let r = code_region m (module_at w.parts.modules m) in
+    let stands = (module_in_memory w m world code.0).0 in
+    All-append (λ (s : Range). IsOutside s.base s.size x) (result_ranges w.parts.kernel (ends w e)) (own_ranges w e)
+    (results_spare w e r x world stands (λ n. refl) code.1 code.2) (own_spares is_ready is_thread w e r x world stands (λ t runs. refl) code.1 code.2)
 
 -- no other module has the bit of one
 other_bit : (m n : ℕ) → n ≢ m → lets_store n (data_region m (module_at [] 0)) ≡ false
 other_bit m n other = ap (λ b. b == 1) (bit_at-pow_other m n other)
 
--- no frame of a step has an address of the data of a module whose thread doesn't run
-others_data_is_in_no_frame : RunningIsReady → ReadyIsThread → (w : World) (t m x : ℕ) → IsWorld w → w.parts.kernel.ready.run ≡ Some t
-    → module_of w.parts.kernel t ≢ m → IsDataOf w m x → IsOutsideAll (frame w Step) x
-others_data_is_in_no_frame is_ready is_thread w t m x world runs other own =
+-- an address in a range is not outside of it
+not_outside : (r : Range) (x : ℕ) → r.base ≤ x → x < r.base + r.size → IsOutside r.base r.size x → ⊥
+not_outside r x from to outside = ⊎_elim (λ before. omega (arith, before)) (λ behind. omega (arith, behind)) outside
+
+-- an event's own range that has an address of a module's data is of a store or a call of that module
+written_by : (p : Parts) (t : ℕ) (e : Effect) (r : Range) → Contains (effect_ranges p t e) r → Writes e
+written_by p t (Completes h) r among = absurd (contains_none r among)
+written_by p t (Stores a n value h) r among = tt
+written_by p t (Calls h) r among = tt
+written_by p t (Faults cause) r among = absurd (contains_none r among)
+
+step_writes : RunningIsReady → ReadyIsThread → (w : World) (m x : ℕ) (run : Option ℕ) → IsWorld w → w.parts.kernel.ready.run ≡ run → IsDataOf w m x
+    → IsIn (step_ranges w.parts run) x → (t : ℕ) × (run ≡ Some t) × (module_of w.parts.kernel t ≡ m) × Writes (next_effect w.parts t)
+step_writes is_ready is_thread w m x None world runs own inside = absurd (contains_none inside.0 inside.1)
+step_writes is_ready is_thread w m x (Some t) world runs own inside =
     let r = data_region m (module_at w.parts.modules m) in
-    event_spares is_ready is_thread w Step r x world (module_in_memory w m world own.0).1
+    ⊎_elim (λ (same : module_of w.parts.kernel t ≡ m). (t, refl, same, written_by w.parts t (next_effect w.parts t) inside.0 inside.1))
+    (λ other.
+    let outside =
+    step_spares is_ready is_thread w (Some t) r x world runs (module_in_memory w m world own.0).1
     (λ u runs_too.
     let same : t ≡ u = cc in
     subst (λ v. lets_store (module_of w.parts.kernel v) r ≡ false) same (other_bit m (module_of w.parts.kernel t) other))
-    own.1 own.2
-
--- what changes a byte is a store or a call
-writes_by : Lower → (p : Parts) (t x : ℕ) (e : Effect) → byte (after_effect p t e).memory x ≢ byte p.memory x → Writes e
-unfolding after_fault
-writes_by lower p t x (Completes h) changed = absurd (changed refl)
-writes_by lower p t x (Stores a n value h) changed = tt
-writes_by lower p t x (Calls h) changed = tt
-writes_by lower p t x (Faults cause) changed =
-    absurd (changed (ap (λ (g : Memory). byte g x) (lower.halt p.kernel p.memory (module_of p.kernel t))))
-
-step_writes : Lower → (w : World) (m x : ℕ) (run : Option ℕ) → IsWorld w → w.parts.kernel.ready.run ≡ run → IsDataOf w m x
-    → byte (stepped_by w.parts run).memory x ≢ byte w.parts.memory x
-    → (t : ℕ) × (run ≡ Some t) × (module_of w.parts.kernel t ≡ m) × Writes (next_effect w.parts t)
-step_writes lower w m x None world runs own changed = absurd (changed refl)
-step_writes lower w m x (Some t) world runs own changed =
-    ⊎_elim (λ (same : module_of w.parts.kernel t ≡ m). (t, refl, same, writes_by lower w.parts t x (next_effect w.parts t) changed))
-    (λ other.
-    let outside = others_data_is_in_no_frame lower.is_ready lower.is_thread w t m x world runs other own in
-    let frame_is : IsOutsideAll (step_frame w.parts (Some t)) x = subst (λ run. IsOutsideAll (step_frame w.parts run) x) runs outside in
-    absurd (changed ((step_within lower w (Some t) world runs).bytes x frame_is)))
+    own.1 own.2 in
+    let there = All-contained (λ (s : Range). IsOutside s.base s.size x) (step_ranges w.parts (Some t)) inside.0 outside inside.1 in
+    absurd (not_outside inside.0 x inside.2 inside.3 there))
     (same_or_other (module_of w.parts.kernel t) m)
 
+own_writes : RunningIsReady → ReadyIsThread → (w : World) (e : Event) (m x : ℕ) → IsWorld w → IsDataOf w m x → IsIn (own_ranges w e) x → IsWriteOf w m e
+own_writes is_ready is_thread w Step m x world own inside = step_writes is_ready is_thread w m x w.parts.kernel.ready.run world refl own inside
+own_writes is_ready is_thread w (Irq d word) m x world own inside = absurd (contains_none inside.0 inside.1)
+
+-- and a result that has it is of a call of that module
+result_is_its_modules : (w : World) (e : Event) (m x : ℕ) → IsWorld w → IsDataOf w m x → IsIn (result_ranges w.parts.kernel (ends w e)) x
+    → IsResultOf w m x e
+result_is_its_modules w e m x world own inside =
+    let k = w.parts.kernel in
+    let s = inside.0 in
+    let r = data_region m (module_at w.parts.modules m) in
+    let result = in_results k (ends w e) s inside.1 in
+    let n = module_of k result.waiter in
+    let stored = result_stored k w.parts.memory (ends w e) s world.serves result in
+    record {
+      waiter = result.waiter;
+      «module» =
+          ⊎_elim (λ same. same)
+          (λ other.
+          absurd (not_outside s x inside.2 inside.3
+          (region_is_outside w.parts.memory n s.base s.size x r world.memory stored (module_in_memory w m world own.0).1 (other_bit m n other) own.1 own.2)))
+          (same_or_other n m);
+      number = result.number;
+      its_number = result.its_number;
+      satisfied = result.satisfied;
+      to = s;
+      its_place = its_range k (ends w e) s result;
+      from_base = inside.2;
+      to_end = inside.3;
+    }
+
 pub data_is_its_modules : Lower → DataIsItsModules
-unfolding stepped
-data_is_its_modules lower w Step m x world own changed = step_writes lower w m x w.parts.kernel.ready.run world refl own changed
-data_is_its_modules lower w (Irq d word) m x world own changed =
-    absurd (changed ((event_within lower w (Irq d word) world).bytes x (All-nil (λ (r : Range). IsOutside r.base r.size x))))
+data_is_its_modules lower w e m x world own changed =
+    let results = result_ranges w.parts.kernel (ends w e) in
+    ⊎_elim
+    (λ inside.
+    ⊎_elim (λ among. inr (result_is_its_modules w e m x world own (inside.0, among, inside.2, inside.3)))
+    (λ among. inl (own_writes lower.is_ready lower.is_thread w e m x world own (inside.0, among, inside.2, inside.3)))
+    (Contains-append_cases results (own_ranges w e) inside.0 inside.1))
+    (λ outside. absurd (changed ((event_within lower w e world).bytes x outside)))
+    (in_or_outside (frame w e) x)
 
 -- a fault
 pub fault_spares_others : HaltSparesThreads → FaultSparesOthers

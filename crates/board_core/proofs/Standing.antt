@@ -21,7 +21,7 @@ use Rattle.board_core.specs.Laws.{CountsAtMost, EventRaisesCounts, ImagesStay, I
 use Rattle.board_core.specs.Machine.{AreCounted, Stands, origin_of, shown}
 use Rattle.board_core.specs.After.{after}
 use Rattle.board_core.specs.Owners.{AreOwned}
-use Rattle.board_core.specs.Run.{Origin, run}
+use Rattle.board_core.specs.Run.{run}
 use Rattle.board_core.specs.Step.{after_effect, after_fault}
 use Rattle.board_core.specs.Trace.{AreTallied, IsTallied, Traced, begun, next}
 use Rattle.board_core.specs.Devices.{device_at, fresh_device, noted}
@@ -62,7 +62,7 @@ one_event w (Irq d word) = omega arith
 
 counts_rise : EventRaisesCounts → (w : World) (e : Event) → IsWorld w → CountsAtMost ((after w e).steps + (after w e).irqs) (after w e).parts.kernel
 counts_rise raises w e sound =
-    let one = raises w e in
+    let one = raises w e sound in
     let more = one_event w e in
     record {
       begun = omega (arith, one.begun, more, sound.counts.begun);
@@ -112,8 +112,8 @@ event_leads laws w now e world is keeps =
     }
 
 -- a trace goes on from the world that it reached
-goes_on : (t : Traced) (w : World) (es : List Event) → t.now ≡ w → ((ended : List WaitEnd) → AreTallied w.parts.kernel.waits ended → IsTallied (fold next (traced w ended) es))
-    → IsTallied t → IsTallied (fold next t es)
+goes_on : (t : Traced) (w : World) (es : List Event) → t.now ≡ w
+    → ((ended : List WaitEnd) → AreTallied w.parts.kernel.waits ended → IsTallied (fold next (traced w ended) es)) → IsTallied t → IsTallied (fold next t es)
 goes_on t w es is tally tallied =
     subst (λ (v : World). IsTallied (fold next (traced v t.ended) es)) (sym is)
     (tally t.ended (subst (λ (v : World). AreTallied v.parts.kernel.waits t.ended) is tallied))

@@ -1,5 +1,6 @@
 -- A start leaves the modules where they lie, and each image in its module's code.
-use Rattle.std.proofs.Common.{◌≡◌, ◌⊎◌, ℕ, zero, suc, ◌+◌, ◌-◌, ◌<◌, ◌≤◌, List, [], ◌∷◌, length, map, get_or, replicate, All, refl, ap, sym, subst, ◌∙◌, inl, inr, ⊎_elim, arith}
+use Rattle.std.proofs.Common.{◌≡◌, ◌⊎◌, ℕ, zero, suc, ◌+◌, ◌-◌, ◌<◌, ◌≤◌, List, [], ◌∷◌, length, map, get_or, replicate, All, refl, ap, sym, subst, ◌∙◌, inl}
+use Rattle.std.proofs.Common.{inr, ⊎_elim, arith}
 use Rattle.std.proofs.lemmas.Bool.{cond_both}
 use Rattle.std.proofs.lemmas.List.{get_or_default, length-replicate, length-set}
 use Rattle.std.proofs.lemmas.List.Elements.{All-head, All-set, All-tail}
@@ -95,8 +96,8 @@ pub record AreStarted (g : Memory) (ms : List Module) (now : Memory) (after : Li
   pub count : length after ≡ length ms
   pub images : images_in now after ≡ images_in g ms
 
-is_started : LengthStays → OthersStay → SoundnessStays → BeginningKeepsMemory → (ms : List Module) (k : Kernel) (g : Memory) (i : ℕ) → AreLaid g ms → i < length ms
-    → AreStarted g ms (start_row ms k g i).change.memory (start_row ms k g i).modules
+is_started : LengthStays → OthersStay → SoundnessStays → BeginningKeepsMemory → (ms : List Module) (k : Kernel) (g : Memory) (i : ℕ)
+    → AreLaid g ms → i < length ms → AreStarted g ms (start_row ms k g i).change.memory (start_row ms k g i).modules
 unfolding start_row
 is_started lengths stays sound begins ms k g i laid below =
     let r = module_at ms i in
@@ -109,7 +110,8 @@ is_started lengths stays sound begins ms k g i laid below =
     (λ _. record { laid = laid; count = refl; images = refl })
 
 -- the same of what a start came to
-pub after_start : LengthStays → OthersStay → SoundnessStays → BeginningKeepsMemory → (ms after : List Module) (k : Kernel) (g now : Memory) (i : ℕ) → AreLaid g ms
+pub after_start : LengthStays → OthersStay → SoundnessStays → BeginningKeepsMemory
+    → (ms after : List Module) (k : Kernel) (g now : Memory) (i : ℕ) → AreLaid g ms
     → i < length ms → now ≡ (start_row ms k g i).change.memory → after ≡ (start_row ms k g i).modules → AreStarted g ms now after
 after_start lengths stays sound begins ms after k g now i laid below memory modules =
     subst (AreStarted g ms now) (sym modules)

@@ -1,6 +1,7 @@
 -- How an event changes waits: by calls of their table, so that none is lost and none ends twice; and by
 -- how much it raises the kernel's counts.
-use Rattle.std.proofs.Common.{◌≡◌, ℕ, ◌+◌, ◌<◌, ◌≤◌, false, true, List, [], ◌∷◌, ◌++◌, length, All, Option, None, Some, position, refl, sym, ap, ◌∙◌, subst, ⊎_elim, arith, append-nil, append_assoc}
+use Rattle.std.proofs.Common.{◌≡◌, ℕ, List, [], ◌∷◌, ◌++◌, Option, None, Some, position, refl, sym, ap, ◌∙◌, subst}
+use Rattle.std.proofs.Common.{⊎_elim, arith, append-nil, append_assoc}
 use Rattle.std.proofs.lemmas.Bool.{cond_both}
 use Rattle.std.proofs.lemmas.List.{get_or-set_other}
 use Rattle.std.proofs.lemmas.List.Elements.{All-weaker}
@@ -11,7 +12,7 @@ use Rattle.board_file.specs.declared.board.Action.{Action}
 use Rattle.board_file.specs.declared.board.Action.TheVariants.{Resume, Tick}
 use Rattle.call_dispatch.specs.Ecall.{dispatched}
 use Rattle.call_dispatch.specs.Laws.{CallCallsWaits, CallRaisesCountsByOne}
-use Rattle.event_log.specs.Events.{Event, Step, Irq}
+use Rattle.event_log.specs.Events.{Step, Irq}
 use Rattle.kernel_state.specs.Change.{Change}
 use Rattle.kernel_state.specs.Kernel.{module_of, thread}
 use Rattle.kernel_state.specs.Laws.{OneHartChanges, ReadyIsThread, RunningIsReady}
@@ -35,13 +36,13 @@ use Rattle.suspend_lists.specs.Waits.{IsTable, WaitTable}
 use Rattle.thread_calls.specs.ThreadRows.{resumption, starting}
 use Rattle.board_core.specs.Action.{acted, clock_advanced, device_of, resumed_by_name}
 use Rattle.board_core.specs.After.{after}
-use Rattle.board_core.specs.Laws.{EventCallsWaits, EventRaisesCounts, GoneIsOver, IsWorld, TallyStays, change_by}
+use Rattle.board_core.specs.Laws.{EventCallsWaits, EventRaisesCounts, GoneIsOver, IsWorld, TallyStays}
 use Rattle.board_core.specs.Step.{after_effect, after_fault, effect_ends, next_effect, step_ends, stepped, stepped_by, with_hart}
 use Rattle.board_core.specs.Trace.{AreTallied}
 use Rattle.board_core.specs.World.{World}
 use Rattle.board_core.specs.declared.parts.Parts.{Parts}
 use Rattle.board_core.proofs.OwnedSlots.{same_or_other}
-use Rattle.board_core.proofs.Running.{running_below, thread-with_hart}
+use Rattle.board_core.proofs.Running.{running_below, serves-with_hart, thread-with_hart}
 
 -- the laws of the layers below
 pub record Lower : Type 0 where
@@ -92,14 +93,15 @@ abbrev change_of : Parts → ℕ → Effect → Change
 change_of p t e =
     let now = after_effect p t e in record { kernel = now.kernel; memory = now.memory; ends = effect_ends p t e }
 
-call_calls : Lower → (w : World) (t : ℕ) (h : HartState) → IsWorld w → w.parts.kernel.ready.run ≡ Some t → CallsWaits w.parts.kernel (change_of w.parts t (Calls h))
+call_calls : Lower → (w : World) (t : ℕ) (h : HartState) → IsWorld w → w.parts.kernel.ready.run ≡ Some t
+    → CallsWaits w.parts.kernel (change_of w.parts t (Calls h))
 call_calls lower w t h world runs =
     let k = w.parts.kernel in
     let now = with_hart k t h in
     let below = running_below lower.is_ready lower.is_thread k t world.serves.sound runs in
     let own = ap (λ (x : Thread). x.state) (thread-with_hart k t h world.serves.sound below) in
     let c = dispatched now w.parts.memory t in
-    let calls = lower.call now w.parts.memory t (lower.hart k t h world.serves.sound below) runs in
+    let calls = lower.call now w.parts.memory t (serves-with_hart lower.hart k w.parts.memory t h world.serves below) runs in
     record {
       calls = calls.calls;
       waits = calls.waits;
@@ -155,19 +157,27 @@ pub gone_is_over : Lower → GoneIsOver
 gone_is_over lower w e world = (event_calls lower w e world).gone
 
 -- the counts
-effect_raises : Lower → (p : Parts) (t : ℕ) (e : Effect) → RaisesCounts 1 p.kernel (after_effect p t e).kernel
+effect_raises : Lower → (w : World) (t : ℕ) (e : Effect) → IsWorld w → w.parts.kernel.ready.run ≡ Some t
+    → RaisesCounts 1 w.parts.kernel (after_effect w.parts t e).kernel
 unfolding after_fault
-effect_raises lower p t (Completes h) = quiet_raises p.kernel (change_of p t (Completes h)) (record { waits = refl; wheel = refl; ends = refl })
-effect_raises lower p t (Stores a n value h) = quiet_raises p.kernel (change_of p t (Stores a n value h)) (record { waits = refl; wheel = refl; ends = refl })
-effect_raises lower p t (Calls h) =
-    let one = lower.call_raises (with_hart p.kernel t h) p.memory t in record { begun = one.begun; armings = one.armings; ticks = one.ticks }
-effect_raises lower p t (Faults cause) =
-    let none = lower.halt_raises p.kernel p.memory (module_of p.kernel t) in
+effect_raises lower w t (Completes h) world runs =
+    quiet_raises w.parts.kernel (change_of w.parts t (Completes h)) (record { waits = refl; wheel = refl; ends = refl })
+effect_raises lower w t (Stores a n value h) world runs =
+    quiet_raises w.parts.kernel (change_of w.parts t (Stores a n value h)) (record { waits = refl; wheel = refl; ends = refl })
+effect_raises lower w t (Calls h) world runs =
+    let k = w.parts.kernel in
+    let below = running_below lower.is_ready lower.is_thread k t world.serves.sound runs in
+    let serves = serves-with_hart lower.hart k w.parts.memory t h world.serves below in
+    let one = lower.call_raises (with_hart k t h) w.parts.memory t serves runs in
+    record { begun = one.begun; armings = one.armings; ticks = one.ticks }
+effect_raises lower w t (Faults cause) world runs =
+    let none = lower.halt_raises w.parts.kernel w.parts.memory (module_of w.parts.kernel t) in
     record { begun = omega (arith, none.begun); armings = omega (arith, none.armings); ticks = omega (arith, none.ticks) }
 
-step_raises : Lower → (p : Parts) (run : Option ℕ) → RaisesCounts 1 p.kernel (stepped_by p run).kernel
-step_raises lower p None = record { begun = omega arith; armings = omega arith; ticks = omega arith }
-step_raises lower p (Some t) = effect_raises lower p t (next_effect p t)
+step_raises : Lower → (w : World) (run : Option ℕ) → IsWorld w → w.parts.kernel.ready.run ≡ run
+    → RaisesCounts 1 w.parts.kernel (stepped_by w.parts run).kernel
+step_raises lower w None world runs = record { begun = omega arith; armings = omega arith; ticks = omega arith }
+step_raises lower w (Some t) world runs = effect_raises lower w t (next_effect w.parts t) world runs
 
 acted_raises : Lower → (p : Parts) (action : Action) (target : List ℕ) (word : ℕ) → RaisesCounts 1 p.kernel (acted p action target word).parts.kernel
 unfolding clock_advanced resumed_by_name
@@ -178,8 +188,8 @@ acted_raises lower p _ target word = record { begun = omega arith; armings = ome
 
 pub event_raises : Lower → EventRaisesCounts
 unfolding stepped
-event_raises lower w Step = step_raises lower w.parts w.parts.kernel.ready.run
-event_raises lower w (Irq d word) = acted_raises lower w.parts (device_of w.board d).action (device_of w.board d).target word
+event_raises lower w Step world = step_raises lower w w.parts.kernel.ready.run world refl
+event_raises lower w (Irq d word) world = acted_raises lower w.parts (device_of w.board d).action (device_of w.board d).target word
 
 -- calls of a table of waits keep the tally
 pub record TableLaws : Type 0 where
@@ -199,7 +209,8 @@ calls_tally laws (c ∷ cs) w over table may tallied =
       counted = laws.count w over c may.0 tallied.counted;
       whole = laws.whole w c table may.0 tallied.whole;
     } in
-    subst (AreTallied (all_called now cs)) (append_assoc over (over_by w c) (all_over now cs)) (calls_tally laws cs now more (laws.table w c table may.0) may.1 one)
+    subst (AreTallied (all_called now cs)) (append_assoc over (over_by w c) (all_over now cs))
+    (calls_tally laws cs now more (laws.table w c table may.0) may.1 one)
 
 pub tally_stays : TableLaws → EventCallsWaits → TallyStays
 tally_stays laws calls t e world tallied =

@@ -1,6 +1,7 @@
 -- The board as it is booted: its modules lie in RAM, which is zero elsewhere, and those that are to
 -- start were started.
-use Rattle.std.specs.Prelude.{◌≡◌, ⊤, ℕ, ◌+◌, ◌^◌, List, [], ◌∷◌, length, map, replicate, zip, Option, None, Some, Result, Ok, Err, if◌then◌else◌, Vec}
+use Rattle.std.specs.Prelude.{◌≡◌, ⊤, ℕ, ◌+◌, ◌^◌, List, [], ◌∷◌, length, map, replicate, zip}
+use Rattle.std.specs.Prelude.{Option, None, Some, Result, Ok, Err, if◌then◌else◌, Vec}
 use Rattle.std.specs.declared.alloc.Global.{Global}
 use Rattle.module_preamble.specs.Preamble.{preamble}
 use Rattle.module_preamble.specs.Words.{words_of}

@@ -3,7 +3,8 @@
 use Rattle.std.specs.Prelude.{ℕ, zero, suc, ◌+◌, ◌-◌, ◌%◌, ◌^◌, Option, None, Some}
 use Rattle.kernel_state.specs.Kernel.{thread, module_of}
 use Rattle.region_guard.specs.Memory.{Memory, with_number}
-use Rattle.rv_core.specs.Execute.{Effect, Completes, Stores, Calls, Faults, executed, hart_after, out_of}
+use Rattle.rv_core.specs.Execute.{Effect, Completes, Stores, Calls, Faults, executed, hart_after}
+use Rattle.rv_core.specs.Execute.{out_of}
 use Rattle.rv_core.specs.Hart.{HartState}
 use Rattle.rv_core.specs.declared.execute.Out.{Out}
 use Rattle.rv_core.specs.declared.execute.Out.TheVariants.{Done}

@@ -1,10 +1,13 @@
 -- Laws of the written machine, over every event.
-use Rattle.std.specs.Prelude.{◌≡◌, ◌≢◌, ⊤, ℕ, ◌+◌, ◌<◌, ◌≤◌, true, List, [], All, fold, map, length, Some}
+use Rattle.std.specs.Prelude.{◌≡◌, ◌≢◌, ◌⊎◌, ⊤, ℕ, ◌+◌, ◌<◌, ◌≤◌, true, List, [], ◌∷◌, All, fold}
+use Rattle.std.specs.Prelude.{Some, length, map}
+use Rattle.std.specs.List.{Contains}
 use Rattle.tx_types.specs.Limits.{interrupt_limit, step_limit}
 use Rattle.event_log.specs.Events.{Event, Step, Irq}
 use Rattle.kernel_state.specs.Change.{Change}
 use Rattle.kernel_state.specs.Kernel.{thread, is_thread, module_of}
-use Rattle.kernel_state.specs.Range.{IsOutsideAll}
+use Rattle.kernel_state.specs.Range.{IsOutsideAll, Range}
+use Rattle.kernel_state.specs.Results.{result_range}
 use Rattle.kernel_state.specs.Room.{RaisesCounts}
 use Rattle.kernel_state.specs.Serves.{Serves}
 use Rattle.kernel_state.specs.Thread.{is_over}
@@ -18,7 +21,8 @@ use Rattle.region_guard.specs.Memory.{Memory, IsSound as IsSoundMemory, byte, by
 use Rattle.rv_core.specs.Execute.{Effect, Completes, Stores, Calls, Faults}
 use Rattle.rv_core.specs.declared.bus.Cause.{Cause}
 use Rattle.suspend_lists.specs.Laws.{IsCounted}
-use Rattle.suspend_lists.specs.Waits.{ended_count, pending_count}
+use Rattle.suspend_lists.specs.Waits.{ended_count, number_of, pending_count}
+use Rattle.tx_types.specs.declared.waits.End.TheVariants.{Satisfied}
 use Rattle.board_file.specs.Rules.{IsBoard}
 use Rattle.board_file.specs.declared.board.Board.{Board}
 use Rattle.board_core.specs.After.{after}
@@ -93,7 +97,7 @@ EventCallsWaits =
 -- an event begins one wait at most, arms one timeout at most, and is one tick at most
 abbrev pub EventRaisesCounts : Type 0
 EventRaisesCounts =
-    (w : World) (e : Event) → RaisesCounts 1 w.parts.kernel (after w e).parts.kernel
+    (w : World) (e : Event) → IsWorld w → RaisesCounts 1 w.parts.kernel (after w e).parts.kernel
 
 -- each byte outside of an event's frame stays
 abbrev pub FrameLaw : Type 0
@@ -135,12 +139,26 @@ IsWriteOf w m Step =
     × Writes (next_effect w.parts t)
 IsWriteOf w m (Irq d word) = ⊥
 
--- a byte of a module's data changes only by a store or a call of that module; no call's result is
--- pending yet, and no module is started but at boot
+-- a call of a thread of module m is pending, its result goes where address x is, and the event ends
+-- its wait as Satisfied
+pub record IsResultOf (w : World) (m x : ℕ) (e : Event) : Type 0 where
+  pub waiter : ℕ
+  pub «module» : module_of w.parts.kernel waiter ≡ m
+  pub number : ℕ
+  pub its_number : number_of w.parts.kernel.waits waiter ≡ Some number
+  pub satisfied : Contains (ends w e) (record { wait = number; how = Satisfied })
+  pub to : Range
+  pub its_place : result_range w.parts.kernel waiter ≡ to ∷ []
+  pub from_base : to.base ≤ x
+  pub to_end : x < to.base + to.size
+
+-- a byte of a module's data changes only by a store or a call of that module, or as the result of a
+-- pending call of that module; no module is started but at boot
 abbrev pub DataIsItsModules : Type 0
 DataIsItsModules =
     (w : World) (e : Event) (m x : ℕ) → IsWorld w → IsDataOf w m x
-    → byte (after w e).parts.memory x ≢ byte w.parts.memory x → IsWriteOf w m e
+    → byte (after w e).parts.memory x ≢ byte w.parts.memory x
+    → IsWriteOf w m e ⊎ IsResultOf w m x e
 
 -- the next instruction can't be executed
 abbrev pub IsFaulting : World → ℕ → Cause → Type 0

@@ -1,5 +1,6 @@
 -- What a report says of the board.
-use Rattle.std.specs.Prelude.{ℕ, zero, suc, ◌+◌, ◌*◌, nat_le, false, List, [], ◌∷◌, ◌++◌, length, drop, Option, None, Some, if◌then◌else◌}
+use Rattle.std.specs.Prelude.{ℕ, zero, suc, ◌+◌, ◌*◌, nat_le, false, List, [], ◌∷◌, ◌++◌, length}
+use Rattle.std.specs.Prelude.{drop, Option, None, Some, if◌then◌else◌}
 use Rattle.std.specs.List.{slice_index_or}
 use Rattle.std.specs.Option.{option_map, option_to_list}
 use Rattle.tx_types.specs.State.{state_number}
@@ -13,7 +14,8 @@ use Rattle.board_values.specs.declared.report.Report.{Report}
 use Rattle.board_values.specs.declared.report.ShowRow.{ShowRow}
 use Rattle.board_values.specs.declared.report.ThreadRow.{ThreadRow}
 use Rattle.call_arguments.specs.Words.{word_at}
-use Rattle.kernel_state.specs.Kernel.{thread, is_thread, module_of, effective_priority, effective_threshold}
+use Rattle.kernel_state.specs.Kernel.{thread, is_thread, module_of, effective_priority}
+use Rattle.kernel_state.specs.Kernel.{effective_threshold}
 use Rattle.kernel_state.specs.ObjectReport.{object_row}
 use Rattle.kernel_state.specs.declared.kernel.Kernel.{Kernel}
 use Rattle.module_loader.specs.Want.{want_of}

@@ -5,11 +5,12 @@ ghost use Rattle.board_core.specs.Laws.{TraceLaw, TallyStays, GoneIsOver, Totals
 
 use call_dispatch::laws::{
     a_call_calls_waits, a_call_changes_slots_once, a_call_raises_counts_by_one,
-    a_call_writes_its_result_alone,
+    a_call_writes_results_alone,
 };
 use flat_ram::{a_number_lies_lowest_byte_first, a_write_changes_its_range_alone};
 use kernel_state::laws::{
-    a_change_calls_waits, a_change_raises_counts_by_one, a_kernel_stays_sound, who_runs_is_a_thread,
+    a_change_calls_waits, a_change_raises_counts_by_one, a_kernel_stays_sound,
+    a_removal_ends_waits_alone, who_runs_is_a_thread,
 };
 use module_manager::laws::{
     a_halt_ends_its_module, a_halt_ends_waits, a_halt_spares_other_modules, a_start_keeps_waits,
@@ -50,16 +51,18 @@ pub fn no_wait_is_lost()
     begun_is_pending_and_ended();
 }
 
-/// An event changes no byte outside of its frame.
+/// An event changes no byte outside of its frame: its own ranges, and the results of the waits that it
+/// ends as satisfied.
 pub fn a_frame_bounds_an_event()
     ensures frame { FrameLaw }
 {
     who_runs_is_a_thread();
+    a_kernel_stays_sound();
     a_write_changes_its_range_alone();
     a_number_lies_lowest_byte_first();
     a_write_changes_its_bytes_alone();
     what_may_be_used_is_in_ram();
-    a_call_writes_its_result_alone();
+    a_call_writes_results_alone();
     a_halt_spares_other_modules();
 }
 
@@ -69,11 +72,12 @@ pub fn an_event_keeps_regions_and_images()
     ensures images { ImagesStay }
 {
     who_runs_is_a_thread();
+    a_kernel_stays_sound();
     a_write_changes_its_range_alone();
     a_number_lies_lowest_byte_first();
     a_write_changes_its_bytes_alone();
     what_may_be_used_is_in_ram();
-    a_call_writes_its_result_alone();
+    a_call_writes_results_alone();
     a_halt_spares_other_modules();
 }
 
@@ -85,12 +89,15 @@ pub fn slots_are_of_started_modules()
     ensures fault { FaultIsKept }
 {
     who_runs_is_a_thread();
+    a_kernel_stays_sound();
     a_call_changes_slots_once();
+    a_removal_ends_waits_alone();
     a_halt_ends_its_module();
 }
 
 /// No event writes code, and a byte of a module's data changes only by a store or a call of that
-/// module. A fault ends no thread of another module, and changes no byte.
+/// module, or as the result of a call of it that waited and is satisfied. A fault ends no thread of
+/// another module, and changes no byte.
 pub fn a_module_is_spared()
     ensures code { CodeIsInNoFrame }
     ensures data { DataIsItsModules }
@@ -98,10 +105,11 @@ pub fn a_module_is_spared()
     ensures bytes { FaultKeepsBytes }
 {
     who_runs_is_a_thread();
+    a_kernel_stays_sound();
     a_write_changes_its_range_alone();
     a_number_lies_lowest_byte_first();
     a_write_changes_its_bytes_alone();
     what_may_be_used_is_in_ram();
-    a_call_writes_its_result_alone();
+    a_call_writes_results_alone();
     a_halt_spares_other_modules();
 }

@@ -11,12 +11,12 @@ ghost use Rattle.board_core.specs.Run.{run};
 
 use crate::machine::Machine;
 use crate::parts::Parts;
-use crate::report_rows::{device_rows, module_rows, numbers, object_rows, thread_rows};
+use crate::report_rows::{device_rows, module_rows, object_rows, thread_rows};
 use crate::shows::show_rows;
 use board_file::Board;
 use board_values::Report;
 use event_log::History;
-use kernel_state::Kernel;
+use kernel_state::{Kernel, thread_numbers};
 use std::alloc::Global;
 use tx_types::NoMemory;
 
@@ -58,8 +58,8 @@ fn report(
         ticks: ticks(kernel),
         clock: kernel.clock,
         running: running(kernel),
-        held: numbers(alloc, &kernel.ready.held_list(alloc)?)?,
-        ready: numbers(alloc, &kernel.ready.ready_list(alloc)?)?,
+        held: thread_numbers(alloc, &kernel.ready.held_list(alloc)?)?,
+        ready: thread_numbers(alloc, &kernel.ready.ready_list(alloc)?)?,
         totals: kernel.waits.totals(),
         modules: module_rows(alloc, board, &parts.modules)?,
         threads: thread_rows(alloc, kernel)?,

@@ -23,7 +23,9 @@ use event_log::{
     History, a_history_grows_by_one_event, a_history_grows_by_steps, an_interrupt_is_one_word_more,
 };
 use flat_ram::a_write_changes_its_range_alone;
-use kernel_state::laws::{a_kernel_stays_sound, who_runs_is_a_thread};
+use kernel_state::laws::{
+    a_kernel_stays_sound, a_promised_result_may_be_stored, who_runs_is_a_thread,
+};
 use module_loader::Placed;
 use region_guard::Guard;
 use std::marker::Model;
@@ -89,6 +91,7 @@ impl Machine {
         no_wait_is_lost();
         who_runs_is_a_thread();
         a_kernel_stays_sound();
+        a_promised_result_may_be_stored();
         a_write_changes_its_range_alone();
         let made = self.parts.make_steps(most);
         is_guarded(&self.parts.memory);

@@ -5,6 +5,8 @@
 ghost use Rattle.std.specs.Prelude.{◌≡◌, ◌+◌, ◌<◌, ◌≤◌, ◌++◌, ◌∷◌, [], All, length, IfOk, OnOk, IfSome};
 ghost use Rattle.std.specs.Option.{option_map, option_to_list};
 ghost use Rattle.tx_types.specs.Limits.{device_limit, slot_limit};
+ghost use Rattle.board_report.specs.Printable.{IsNumbers};
+ghost use Rattle.board_values.specs.declared.report.ObjectRow.{ObjectRow};
 ghost use Rattle.board_values.specs.declared.report.ThreadRow.{ThreadRow};
 ghost use Rattle.kernel_state.specs.Kernel.{is_thread};
 ghost use Rattle.kernel_state.specs.ObjectReport.{object_row};
@@ -14,8 +16,8 @@ ghost use Rattle.board_core.specs.Report.{rows_below, rows_found, device_row, fa
 use crate::devices::Devices;
 use board_file::Board;
 use board_values::{
-    DevNo, DeviceRow, DeviceRows, FaultRow, ModuleRow, ModuleRows, Nums, ObjectRows, Rows,
-    ThreadRow, ThreadRows,
+    DevNo, DeviceRow, DeviceRows, FaultRow, ModuleRow, ModuleRows, ObjectRows, Rows, ThreadRow,
+    ThreadRows,
 };
 use kernel_state::Kernel;
 use module_manager::Manager;
@@ -38,18 +40,6 @@ fn put_some<T: Drop>(rows: &mut Vec<T>, row: Option<T>) -> Result<(), AllocError
         Some(row) => put(rows, row),
         None => Ok(()),
     }
-}
-
-/// The numbers of threads.
-pub(crate) fn numbers(alloc: Global, threads: &[ThreadNo]) -> Result<Nums, NoMemory>
-    ensures same { IfOk result (λ ns. ns ≡ threads.now) }
-    ensures small { IfOk result (All (λ n. n < slot_limit)) }
-{
-    let mut ns = Vec::new(alloc);
-    for t in threads {
-        put(&mut ns, t.number())?;
-    }
-    Ok(Rows::new(ns))
 }
 
 /// The fault of a module.
@@ -160,11 +150,12 @@ pub(crate) fn thread_rows(alloc: Global, kernel: &Kernel) -> Result<ThreadRows, 
 }
 
 /// A row for each object that isn't a thread.
-#[tactic(auto, using(crate::proofs::Lists::rows_found_none, crate::proofs::Lists::rows_found_more))]
+#[tactic(auto, using(crate::proofs::Lists::rows_found_none, crate::proofs::Lists::rows_found_more, crate::proofs::Lists::all_put, crate::proofs::Printing::some_numbers))]
 pub(crate) fn object_rows(alloc: Global, kernel: &Kernel) -> Result<ObjectRows, NoMemory>
     requires { length kernel.now.objects ≡ slot_limit }
-    ensures { IfOk result (λ rows. rows
+    ensures rows { IfOk result (λ rows. rows
         ≡ rows_found (length kernel.now.objects) (object_row kernel.now)) }
+    ensures waits { IfOk result (All (λ (r : ObjectRow). IsNumbers r.waits)) }
 {
     let mut rows = Vec::new(alloc);
     for o in 0..SLOTS {

@@ -13,7 +13,9 @@ ghost use Rattle.board_core.specs.Step.{after_call, after_fault, ran_on};
 use crate::bursts::{BurstEnd, burst};
 use crate::parts::Parts;
 use call_dispatch::dispatch;
-use kernel_state::laws::{a_kernel_stays_sound, who_runs_is_a_thread};
+use kernel_state::laws::{
+    a_kernel_stays_sound, a_promised_result_may_be_stored, who_runs_is_a_thread,
+};
 use rv_core::{Cause, Out};
 use tx_types::ThreadNo;
 
@@ -63,6 +65,7 @@ impl Parts {
         ensures serves { Serves self.new.kernel self.new.memory }
     {
         a_kernel_stays_sound();
+        a_promised_result_may_be_stored();
         let module = self.kernel.module_of(t);
         burst(self.kernel.hart_mut(t), &mut self.memory, module, most)
     }

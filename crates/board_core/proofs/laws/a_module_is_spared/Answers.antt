@@ -7,11 +7,12 @@ returns c =
     let lower : Lower = record {
       is_ready = c.who_runs_is_a_thread.ensures.running_is_ready;
       is_thread = c.who_runs_is_a_thread.ensures.ready_is_thread;
+      hart = c.a_kernel_stays_sound.ensures.one_hart_changes;
       length_stays = c.a_write_changes_its_range_alone.ensures.length_stays;
       width = c.a_number_lies_lowest_byte_first.ensures.width_is_length;
       outside_stays = c.a_write_changes_its_bytes_alone.ensures.outside_stays;
       in_ram = c.what_may_be_used_is_in_ram.ensures.in_ram;
-      call = c.a_call_writes_its_result_alone.ensures;
+      call = c.a_call_writes_results_alone.ensures;
       halt = c.a_halt_spares_other_modules.ensures.memory;
     } in
     record {

@@ -39,6 +39,7 @@ leads c =
       is_thread = c.who_runs_is_a_thread.ensures.ready_is_thread;
       hart = c.a_kernel_stays_sound.ensures.one_hart_changes;
       lengths = c.a_write_changes_its_range_alone.ensures.length_stays;
+      promises = c.a_promised_result_may_be_stored.ensures.stays;
       events = record {
         regions = stay.regions;
         images = stay.images;
