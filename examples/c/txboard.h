@@ -15,6 +15,8 @@ typedef char CHAR;
 typedef void VOID;
 
 typedef ULONG TX_THREAD; /* a reference to a thread; 0 is none */
+typedef ULONG TX_QUEUE; /* a reference to a message queue */
+typedef ULONG TX_SEMAPHORE; /* a reference to a counting semaphore */
 
 /* Status codes (ThreadX User Guide, "Return Values"); TXM_MODULE_INVALID_MEMORY is after the Modules guide */
 #define TX_SUCCESS 0x00
@@ -78,6 +80,10 @@ typedef ULONG TX_THREAD; /* a reference to a thread; 0 is none */
 #define TXM_BLOCK_POOL_OBJECT 7
 #define TXM_TIMER_OBJECT 8
 
+/* How many ticks a call waits at most that can't be served at once: none, any number, or without end */
+#define TX_NO_WAIT 0
+#define TX_WAIT_FOREVER 0xFFFFFFFFU
+
 #define TX_NO_TIME_SLICE 0
 #define TX_AUTO_START 1
 #define TX_DONT_START 0
@@ -94,6 +100,19 @@ typedef struct {
     ULONG remaining_slice;
 } TX_THREAD_INFO;
 
+/* What tx_queue_info_get writes, three words */
+typedef struct {
+    ULONG enqueued; /* messages in the queue */
+    ULONG available; /* how many more it has room for */
+    ULONG suspended; /* threads that wait for it */
+} TX_QUEUE_INFO;
+
+/* What tx_semaphore_info_get writes, two words */
+typedef struct {
+    ULONG count;
+    ULONG suspended; /* threads that wait for it */
+} TX_SEMAPHORE_INFO;
+
 /* Words that a board's report is to show: they lie first in the module's data, in the order in which they are defined,
  * so the first is at offset 0, the second at 4. */
 #define TXB_SHOWN __attribute__((section(".data.shown")))
@@ -105,6 +124,18 @@ static inline ULONG txb_call(ULONG number, ULONG first, ULONG second, ULONG thir
     register ULONG a2 __asm__("a2") = third;
     register ULONG a7 __asm__("a7") = number;
     __asm__ volatile("ecall" : "+r"(a0) : "r"(a1), "r"(a2), "r"(a7) : "memory");
+    return a0;
+}
+
+/* The same with five arguments */
+static inline ULONG txb_call5(ULONG number, ULONG first, ULONG second, ULONG third, ULONG fourth, ULONG fifth) {
+    register ULONG a0 __asm__("a0") = first;
+    register ULONG a1 __asm__("a1") = second;
+    register ULONG a2 __asm__("a2") = third;
+    register ULONG a3 __asm__("a3") = fourth;
+    register ULONG a4 __asm__("a4") = fifth;
+    register ULONG a7 __asm__("a7") = number;
+    __asm__ volatile("ecall" : "+r"(a0) : "r"(a1), "r"(a2), "r"(a3), "r"(a4), "r"(a7) : "memory");
     return a0;
 }
 
@@ -184,5 +215,73 @@ static inline UINT tx_thread_reset(TX_THREAD thread) { return txb_call(0x1D, thr
 
 /* Ends the caller, as its return from its entry does. */
 static inline VOID txb_thread_complete(VOID) { txb_call(0x1F, 0, 0, 0); }
+
+/* Message queues: messages of one size, 1 to 16 words, in order */
+
+/* Makes a queue in an allocated slot, of as many messages as the area holds, which has at most 4,096 bytes. The area is
+ * the module's own memory; the kernel keeps the messages itself, and never writes there. */
+static inline UINT tx_queue_create(TX_QUEUE queue, const CHAR *name, UINT message_words, VOID *area, ULONG area_size) {
+    return txb_call5(0x20, queue, (ULONG)name, message_words, (ULONG)area, area_size);
+}
+
+/* Removes a queue. Only its own module may. Whoever waits for it gets TX_DELETED. */
+static inline UINT tx_queue_delete(TX_QUEUE queue) { return txb_call(0x21, queue, 0, 0); }
+
+/* Sends a message, to the first thread that waits for one, or else to the end of the queue. Where there is no room the call
+ * waits for this many ticks at most, and then answers TX_QUEUE_FULL. */
+static inline UINT tx_queue_send(TX_QUEUE queue, const VOID *message, ULONG wait) {
+    return txb_call(0x22, queue, (ULONG)message, wait);
+}
+
+/* The same, but to the front of the queue. */
+static inline UINT tx_queue_front_send(TX_QUEUE queue, const VOID *message, ULONG wait) {
+    return txb_call(0x23, queue, (ULONG)message, wait);
+}
+
+/* Takes the first message and writes it there. Where there is none the call waits for this many ticks at most, and then
+ * answers TX_QUEUE_EMPTY. */
+static inline UINT tx_queue_receive(TX_QUEUE queue, VOID *message, ULONG wait) {
+    return txb_call(0x24, queue, (ULONG)message, wait);
+}
+
+/* Empties a queue; who waits to send gets TX_SUCCESS, and its message is dropped too. */
+static inline UINT tx_queue_flush(TX_QUEUE queue) { return txb_call(0x25, queue, 0, 0); }
+
+/* The most urgent thread that waits for the queue goes first. */
+static inline UINT tx_queue_prioritize(TX_QUEUE queue) { return txb_call(0x26, queue, 0, 0); }
+
+static inline UINT tx_queue_info_get(TX_QUEUE queue, TX_QUEUE_INFO *info) {
+    return txb_call(0x27, queue, (ULONG)info, 0);
+}
+
+/* Counting semaphores */
+
+/* Makes a semaphore in an allocated slot, which counts so many instances. */
+static inline UINT tx_semaphore_create(TX_SEMAPHORE semaphore, const CHAR *name, ULONG count) {
+    return txb_call(0x30, semaphore, (ULONG)name, count);
+}
+
+/* Removes a semaphore. Only its own module may. Whoever waits for it gets TX_DELETED. */
+static inline UINT tx_semaphore_delete(TX_SEMAPHORE semaphore) { return txb_call(0x31, semaphore, 0, 0); }
+
+/* Takes an instance. Where there is none the call waits for this many ticks at most, and then answers TX_NO_INSTANCE. */
+static inline UINT tx_semaphore_get(TX_SEMAPHORE semaphore, ULONG wait) {
+    return txb_call(0x32, semaphore, wait, 0);
+}
+
+/* Gives an instance, to the first thread that waits for one, or else to the count. */
+static inline UINT tx_semaphore_put(TX_SEMAPHORE semaphore) { return txb_call(0x33, semaphore, 0, 0); }
+
+/* The same, but TX_CEILING_EXCEEDED where it counts that many already. */
+static inline UINT tx_semaphore_ceiling_put(TX_SEMAPHORE semaphore, ULONG ceiling) {
+    return txb_call(0x34, semaphore, ceiling, 0);
+}
+
+/* The most urgent thread that waits for the semaphore goes first. */
+static inline UINT tx_semaphore_prioritize(TX_SEMAPHORE semaphore) { return txb_call(0x35, semaphore, 0, 0); }
+
+static inline UINT tx_semaphore_info_get(TX_SEMAPHORE semaphore, TX_SEMAPHORE_INFO *info) {
+    return txb_call(0x36, semaphore, (ULONG)info, 0);
+}
 
 #endif
