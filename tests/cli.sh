@@ -523,9 +523,10 @@ expect 'a reader that has gone: the usage line' 4 '' to_gone
 expect 'a reader of one line' 0 'hart steps 1 end count' first_line hart "$p1" 1
 expect 'no standard input and no standard error' 0 "$p1_text" with_output_alone hart "$p1" 1
 
-# ---- Memory: the most RAM of a board is more than these 16,000 KiB of addresses, in which all else has room
+# ---- Memory: with the most RAM a board takes more than these 32,000 KiB of addresses, and with little RAM less. Room for
+# each message that 256 queues may have is 18 MB of them
 
-in_little() { (ulimit -v 16000 && "$txboard" "$@"); }
+in_little() { (ulimit -v 32000 && "$txboard" "$@"); }
 modules 16777216 p1.img >"$boards/board.toml"
 printf 'S 1\n' >"$work/log"
 expect 'memory: the RAM of a board' 5 '' from "$boards" in_little replay board.toml "$work/log"
